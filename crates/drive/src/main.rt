@@ -1,0 +1,119 @@
+//! `drive START CHARGE CAPACITY WATTS PLACE ..`: tries one walk on the worked map, and tells where the
+//! van is and what it carries after each road.
+mod request;
+mod worked;
+
+use loads::charge::Charge;
+use maps::table::TableMap;
+use maps::table::TableMapMap;
+use refusals::refusal::RefusalDisplay;
+use request::BadRequest;
+use request::Request;
+use request::read_request;
+use std::env;
+use std::error::AnyError;
+use std::io;
+use walks::trial::Ending;
+use walks::trial::NoTrial;
+use walks::trial::Trial;
+use walks::trial::try_charged_walk;
+
+fn try_on_worked_map(rt: &LibcRuntime, request: &Request) -> Result<Trial<Charge>, NoTrial> {
+    let mut map = TableMap::empty();
+    if let Err(refusal) = map.load(
+        &worked::COUNTS,
+        &worked::HEADS,
+        &worked::TIMES,
+        &worked::DRAWS,
+    ) {
+        return Err(NoTrial::Refused(refusal));
+    }
+    try_charged_walk(
+        rt.alloc(),
+        map,
+        request.watts,
+        request.capacity,
+        request.start,
+        request.charge,
+        &request.places,
+    )
+}
+
+fn print_legs(rt: &LibcRuntime, trial: &Trial<Charge>) -> io::Result<()> {
+    println!(rt, "road junction place seconds charge")?;
+    for (i, leg) in trial.legs.iter().enumerate() {
+        println!(
+            rt,
+            "{} {} {} {} {}",
+            i.wrapping_add(1),
+            leg.junction,
+            leg.place,
+            leg.time,
+            leg.load.level
+        )?;
+    }
+    Ok(())
+}
+
+fn print_ending(rt: &LibcRuntime, departed_with: u32, trial: &Trial<Charge>) -> io::Result<()> {
+    let road = trial.legs.len().wrapping_add(1);
+    let charge = match trial.legs.last() {
+        Some(leg) => leg.load,
+        None => Charge {
+            level: departed_with,
+        },
+    };
+    match trial.ending {
+        Ending::Arrived => println!(rt, "arrived"),
+        Ending::EmptyPlace => println!(rt, "stranded at road {road}: the place is empty"),
+        Ending::CannotDrive(next) => println!(
+            rt,
+            "stranded at road {road}: the charge is short by {} watt-hours",
+            charge.short_of(next.draw)
+        ),
+        Ending::PastDeadline(_) => println!(
+            rt,
+            "stranded at road {road}: the walk would take over 999999 seconds"
+        ),
+    }
+}
+
+fn complain(rt: &LibcRuntime, bad: BadRequest) -> io::Result<()> {
+    match bad {
+        BadRequest::TooFewWords => println!(
+            rt,
+            "usage: drive START CHARGE CAPACITY WATTS PLACE .."
+        ),
+        BadRequest::NotANumber => println!(
+            rt,
+            "usage: drive START CHARGE CAPACITY WATTS PLACE .. (whole numbers)"
+        ),
+        BadRequest::OutOfMemory => println!(rt, "out of memory"),
+    }
+}
+
+fn run(rt: &LibcRuntime, request: &Request) -> Result<(), AnyError> {
+    match try_on_worked_map(rt, request) {
+        Ok(trial) => {
+            print_legs(rt, &trial)?;
+            print_ending(rt, request.charge, &trial)?;
+            Ok(())
+        }
+        Err(NoTrial::Refused(refusal)) => {
+            println!(rt, "refused {}: {refusal}", refusal.number())?;
+            Err("refused".into())
+        }
+        Err(NoTrial::OutOfMemory) => Err("out of memory".into()),
+    }
+}
+
+fn main(rt: LibcRuntime) -> Result<(), AnyError> {
+    let words: Vec<String> = env::args(&rt)?.skip(1).collect(rt.alloc())?;
+    match read_request(rt.alloc(), &words) {
+        Ok(request) => run(&rt, &request),
+        Err(bad) => {
+            complain(&rt, bad)?;
+            Err("no request".into())
+        }
+    }
+}

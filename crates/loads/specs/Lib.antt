@@ -1,0 +1,5 @@
+pub mod Meaning
+pub mod Laws
+pub mod Charge
+pub mod Picked
+pub mod ChargeLaws

@@ -1,0 +1,9 @@
+pub mod Rows
+pub mod FirstFailure
+pub mod Table
+pub mod Heater
+pub mod SomeRoad
+pub mod RowsSound
+pub mod FirstFailureFound
+pub mod TableSound
+pub mod HeaterSound

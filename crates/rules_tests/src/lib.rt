@@ -1,0 +1,5 @@
+//! Tests of the rules on examples: maps, loads and walks.
+#[cfg(test)]
+mod bad_input;
+#[cfg(test)]
+mod worked_walks;

@@ -1,0 +1,2 @@
+mod TrialSteps
+mod ChargedTrial

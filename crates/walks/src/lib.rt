@@ -1,0 +1,4 @@
+//! Walks driven road by road: where a van is, what it carries, and where it can go no further.
+pub mod arrival;
+pub mod leg;
+pub mod trial;
