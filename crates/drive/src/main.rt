@@ -1,11 +1,11 @@
-//! `drive START CHARGE CAPACITY WATTS PLACE ..`: tries one walk on the worked map, and tells where the
-//! van is and what it carries after each road.
+//! `drive [--estate W H T D G] [--shut J K].. START CHARGE CAPACITY WATTS PLACE..`: tries one walk on the
+//! worked map or on an estate, and tells where the van is and what it carries after each road.
+mod attempt;
 mod request;
 mod worked;
 
+use attempt::attempt as try_request;
 use loads::charge::Charge;
-use maps::table::TableMap;
-use maps::table::TableMapMap;
 use refusals::refusal::RefusalDisplay;
 use request::BadRequest;
 use request::Request;
@@ -16,28 +16,6 @@ use std::io;
 use walks::trial::Ending;
 use walks::trial::NoTrial;
 use walks::trial::Trial;
-use walks::trial::try_charged_walk;
-
-fn try_on_worked_map(rt: &LibcRuntime, request: &Request) -> Result<Trial<Charge>, NoTrial> {
-    let mut map = TableMap::empty();
-    if let Err(refusal) = map.load(
-        &worked::COUNTS,
-        &worked::HEADS,
-        &worked::TIMES,
-        &worked::DRAWS,
-    ) {
-        return Err(NoTrial::Refused(refusal));
-    }
-    try_charged_walk(
-        rt.alloc(),
-        map,
-        request.watts,
-        request.capacity,
-        request.start,
-        request.charge,
-        &request.places,
-    )
-}
 
 fn print_legs(rt: &LibcRuntime, trial: &Trial<Charge>) -> io::Result<()> {
     println!(rt, "road junction place seconds charge")?;
@@ -79,21 +57,20 @@ fn print_ending(rt: &LibcRuntime, departed_with: u32, trial: &Trial<Charge>) -> 
 }
 
 fn complain(rt: &LibcRuntime, bad: BadRequest) -> io::Result<()> {
-    match bad {
-        BadRequest::TooFewWords => println!(
-            rt,
-            "usage: drive START CHARGE CAPACITY WATTS PLACE .."
-        ),
-        BadRequest::NotANumber => println!(
-            rt,
-            "usage: drive START CHARGE CAPACITY WATTS PLACE .. (whole numbers)"
-        ),
-        BadRequest::OutOfMemory => println!(rt, "out of memory"),
-    }
+    let why = match bad {
+        BadRequest::TooFewWords => "too few words",
+        BadRequest::NotANumber => "a word that is no whole number",
+        BadRequest::OutOfMemory => "out of memory",
+    };
+    println!(rt, "{why}; usage:")?;
+    println!(
+        rt,
+        "drive [--estate W H T D G] [--shut J K].. START CHARGE CAPACITY WATTS PLACE.."
+    )
 }
 
 fn run(rt: &LibcRuntime, request: &Request) -> Result<(), AnyError> {
-    match try_on_worked_map(rt, request) {
+    match try_request(rt.alloc(), request) {
         Ok(trial) => {
             print_legs(rt, &trial)?;
             print_ending(rt, request.charge, &trial)?;

@@ -1,1 +1,3 @@
 pub mod RowsAnswered
+pub mod Shutting
+pub mod ClosedRows

@@ -2,8 +2,13 @@ pub mod Rows
 pub mod FirstFailure
 pub mod Table
 pub mod Heater
+pub mod Estate
+pub mod Entries
+pub mod Closures
 pub mod SomeRoad
 pub mod RowsSound
 pub mod FirstFailureFound
 pub mod TableSound
 pub mod HeaterSound
+pub mod EstateSound
+pub mod ClosuresSound

@@ -1,3 +1,4 @@
+-- The table map: what its tables mean, and the checks that they pass.
 use mathlib.Core.Bool.{Bool, cond, not, _||_, _&&_}
 use mathlib.Core.List.{List}
 use Prim.Native.Nat.{ℕ, _+_, _*_, _/_, _%_}

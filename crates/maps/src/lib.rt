@@ -5,6 +5,8 @@ ghost use Rattle.maps.specs.Rows.{Rows, Sound, answered};
 use refusals::refusal::Refusal;
 use road::Road;
 
+pub mod closures;
+pub mod estate;
 pub mod heater;
 pub mod road;
 pub mod table;

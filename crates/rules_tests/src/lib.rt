@@ -2,4 +2,6 @@
 #[cfg(test)]
 mod bad_input;
 #[cfg(test)]
+mod piles;
+#[cfg(test)]
 mod worked_walks;
