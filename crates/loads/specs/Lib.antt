@@ -1,5 +1,8 @@
 pub mod Meaning
 pub mod Laws
 pub mod Charge
+pub mod Profile
+pub mod WorkedDrives
 pub mod Picked
 pub mod ChargeLaws
+pub mod ProfileLaws

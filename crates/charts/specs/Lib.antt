@@ -1,0 +1,4 @@
+pub mod Bridge
+pub mod Trips
+pub mod Chart
+pub mod Theorems

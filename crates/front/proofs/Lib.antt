@@ -1,0 +1,14 @@
+pub mod Loads
+pub mod Order
+pub mod Serving
+pub mod OneRoad
+pub mod Walks
+pub mod Labels
+pub mod Invariant
+pub mod NextCandidate
+pub mod Steps
+pub mod ListedLabels
+pub mod OneBeginning
+pub mod Legs
+pub mod Tracing
+pub mod Theorems

@@ -1,0 +1,7 @@
+pub mod Walks
+pub mod OneRoad
+pub mod Front
+pub mod Legs
+pub mod Labels
+pub mod Invariant
+pub mod Theorems

@@ -1,0 +1,11 @@
+pub mod Numbers
+pub mod Order
+pub mod StandsFor
+pub mod Refuses
+pub mod Begin
+pub mod Advance
+pub mod Trace
+pub mod Chart
+pub mod Runs
+pub mod Law
+pub mod ChartLaw

@@ -1,0 +1,4 @@
+pub mod HeapOrder
+pub mod Rearranging
+pub mod Rising
+pub mod Sinking

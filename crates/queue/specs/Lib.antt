@@ -1,0 +1,3 @@
+pub mod Heaps
+pub mod Sifting
+pub mod Waiting
