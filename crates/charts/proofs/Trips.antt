@@ -41,10 +41,11 @@ module _ (t : Trip) (valid : ValidTrip t) (b : ℕ) (admitted : b ≤ t .capacit
     where
       go : (o : Option Profile) → profiles (t .capacity) .drive (a .load) (l .road) ≡ o → and-then o (read-at b) ≡ Some (y .load) → (c : Arrival Profile) × Leads (profile-query t) a k c × ReadAs b c y
       go None p e = absurd (none-some (y .load) None refl e)
-      go (Some f) p e =
-          ( arrival-at (y .junction) (y .time) f
-          , record { road = l .road; at-place = ap (λ (v : ℕ). at (t .rows) v k) (r .same-junction) ∙ l .at-place; driven = p; at-head = l .at-head; seconds-later = omega (arith, l .seconds-later, r .same-time); within-deadline = l .within-deadline }
-          , record { same-junction = refl; same-time = refl; charge-read = e } )
+      go (Some f) p e = (
+        arrival-at (y .junction) (y .time) f,
+        record { road = l .road; at-place = ap (λ (v : ℕ). at (t .rows) v k) (r .same-junction) ∙ l .at-place; driven = p; at-head = l .at-head; seconds-later = omega (arith, l .seconds-later, r .same-time); within-deadline = l .within-deadline },
+        record { same-junction = refl; same-time = refl; charge-read = e },
+      )
 
   -- a road that the profile drives to one that reads as y, a charge drives to y
   charge-drives-too : (a c : Arrival Profile) (y : Arrival Charge) (k : ℕ) → profiles (t .capacity) .is-load (a .load) ≡ true → Leads (profile-query t) a k c → ReadAs b c y → (x : Arrival Charge) × ReadAs b a x × Leads (charge-query t b) x k y
@@ -52,10 +53,11 @@ module _ (t : Trip) (valid : ValidTrip t) (b : ℕ) (admitted : b ≤ t .capacit
     where
       go : (o : Option Charge) → read-at b (a .load) ≡ o → and-then (read-at b (a .load)) (λ c. charges (t .capacity) .drive c (l .road)) ≡ Some (y .load) → (x : Arrival Charge) × ReadAs b a x × Leads (charge-query t b) x k y
       go None p e = absurd (none-some (y .load) None refl (sym (ap (λ (o : Option Charge). and-then o (λ c. charges (t .capacity) .drive c (l .road))) p) ∙ e))
-      go (Some x) p e =
-          ( arrival-at (a .junction) (a .time) x
-          , record { same-junction = refl; same-time = refl; charge-read = p }
-          , record { road = l .road; at-place = l .at-place; driven = sym (ap (λ (o : Option Charge). and-then o (λ c. charges (t .capacity) .drive c (l .road))) p) ∙ e; at-head = sym (r .same-junction) ∙ l .at-head; seconds-later = sym (r .same-time) ∙ l .seconds-later; within-deadline = omega (arith, r .same-time, l .within-deadline) } )
+      go (Some x) p e = (
+        arrival-at (a .junction) (a .time) x,
+        record { same-junction = refl; same-time = refl; charge-read = p },
+        record { road = l .road; at-place = l .at-place; driven = sym (ap (λ (o : Option Charge). and-then o (λ c. charges (t .capacity) .drive c (l .road))) p) ∙ e; at-head = sym (r .same-junction) ∙ l .at-head; seconds-later = sym (r .same-time) ∙ l .seconds-later; within-deadline = omega (arith, r .same-time, l .within-deadline) },
+      )
 
   with-the-charge-then-with-a-profile : {w : Walk} {x : Arrival Charge} → Drives (charge-query t b) w x → (a : Arrival Profile) × Drives (profile-query t) w a × ReadAs b a x
   with-the-charge-then-with-a-profile empty-walk = (departure (profile-query t), empty-walk, record { same-junction = refl; same-time = refl; charge-read = plain-profile-reads-each-charge (t .capacity) b admitted })

@@ -34,6 +34,7 @@ as-good-is-no-worse f g hf hg meant =
 
 -- of what the kind answers, r
 pub as-good-decides-the-meaning : (m : ℕ) (f g : Profile) (r : Bool) → r ≡ profiles m .as-good f g → Decides r ((is-profile f ≡ true) × (is-profile g ≡ true) × AsGood f g)
-as-good-decides-the-meaning m f g r a =
-    ( (λ e. let b = both-and-no-worse m f g (sym a ∙ e) in (within-bounds f (b .first), within-bounds g (b .second), no-worse-is-as-good f g (b .no-worse)))
-    , (λ h. let hf = bounds f (h .0) in let hg = bounds g (h .1) in a ∙ good m f g (record { first = hf; second = hg; no-worse = as-good-is-no-worse f g hf hg (h .2) })) )
+as-good-decides-the-meaning m f g r a = (
+  (λ e. let b = both-and-no-worse m f g (sym a ∙ e) in (within-bounds f (b .first), within-bounds g (b .second), no-worse-is-as-good f g (b .no-worse))),
+  (λ h. let hf = bounds f (h .0) in let hg = bounds g (h .1) in a ∙ good m f g (record { first = hf; second = hg; no-worse = as-good-is-no-worse f g hf hg (h .2) })),
+)

@@ -79,14 +79,16 @@ low-no-lower-after-gain m c p q a b h k = omega arith
 no-worse-drives-no-worse : (m : ℕ) (f g g′ : Profile) (c : ℤ) → NoWorse f g → over-draw m g c ≡ Some g′ → (f′ : Profile) × (over-draw m f c ≡ Some f′) × NoWorse f′ g′
 no-worse-drives-no-worse m f g g′ (pos c) w e =
     let p = passed (leb c (g .high)) _ g′ e in
-    let q : c ≤ g .high = leb-true _ _ (p .0) in
-    ( profile (f .need + (c - f .low)) (min m (f .low - c)) (min m (f .high - c))
-    , cond-true _ _ _ (le-leb c (f .high) (omega arith))
-    , subst (NoWorse _) (some-same _ _ (p .1)) (record { needs-no-more = omega arith; high-no-lower = omega arith; low-no-lower = low-no-lower-after-draw m c (f .low) (g .low) (f .need) (g .need) (w .needs-no-more) (w .low-no-lower) }) )
-no-worse-drives-no-worse m f g g′ (negsuc c) w e =
-    ( profile (f .need) (min m (f .low + suc c)) (min m (f .high + suc c))
-    , refl
-    , subst (NoWorse _) (some-same _ _ e) (record { needs-no-more = w .needs-no-more; high-no-lower = omega arith; low-no-lower = low-no-lower-after-gain m (suc c) (f .low) (g .low) (f .need) (g .need) (w .needs-no-more) (w .low-no-lower) }) )
+    let q : c ≤ g .high = leb-true _ _ (p .0) in (
+      profile (f .need + (c - f .low)) (min m (f .low - c)) (min m (f .high - c)),
+      cond-true _ _ _ (le-leb c (f .high) (omega arith)),
+      subst (NoWorse _) (some-same _ _ (p .1)) (record { needs-no-more = omega arith; high-no-lower = omega arith; low-no-lower = low-no-lower-after-draw m c (f .low) (g .low) (f .need) (g .need) (w .needs-no-more) (w .low-no-lower) }),
+    )
+no-worse-drives-no-worse m f g g′ (negsuc c) w e = (
+  profile (f .need) (min m (f .low + suc c)) (min m (f .high + suc c)),
+  refl,
+  subst (NoWorse _) (some-same _ _ e) (record { needs-no-more = w .needs-no-more; high-no-lower = omega arith; low-no-lower = low-no-lower-after-gain m (suc c) (f .low) (g .low) (f .need) (g .need) (w .needs-no-more) (w .low-no-lower) }),
+)
 
 after-drive : (m : ℕ) (f f′ : Profile) (c : ℤ) → Bounds f → over-draw m f c ≡ Some f′ → AfterDrive m f f′
 after-drive m f f′ (pos c) h e =
@@ -123,10 +125,11 @@ module _ (m : ℕ) (few : m ≤ 100000) where
   better-drives f g g′ e h d =
       let b = both-and-no-worse m f g h in
       let u = driven m g g′ e d in
-      let s = no-worse-drives-no-worse m f g g′ (e .draw) (b .no-worse) (u .1) in
-      ( s .0
-      , cond-true _ _ _ (within-bounds f (b .first)) ∙ s .1
-      , good m (s .0) g′ (record { first = bounds-after f (s .0) (b .first) (after-drive m f (s .0) (e .draw) (b .first) (s .1)); second = bounds-driven g g′ e d; no-worse = s .2 }) )
+      let s = no-worse-drives-no-worse m f g g′ (e .draw) (b .no-worse) (u .1) in (
+        s .0,
+        cond-true _ _ _ (within-bounds f (b .first)) ∙ s .1,
+        good m (s .0) g′ (record { first = bounds-after f (s .0) (b .first) (after-drive m f (s .0) (e .draw) (b .first) (s .1)); second = bounds-driven g g′ e d; no-worse = s .2 }),
+      )
 
   stays-admitted : (f f′ : Profile) (e : Road) → profiles m .admits f ≡ true → profiles m .drive f e ≡ Some f′ → profiles m .admits f′ ≡ true
   stays-admitted f f′ e a d =

@@ -53,26 +53,26 @@ accounted-once-begun {L} q v s′ t b = subst (λ (x : Standing). Accounted q s�
     base i x lt st =
         let z : i ≡ 0 = omega (arith, b .one-label-is-listed, lt) in
         (z, ap (λ (y : Arrival L). y .junction) (label-0-is-the-departure q s′ (v .labels-after) (v .waiting-after) (b .stands) x (subst (λ k. Stored (v .labels-after) k x) z st)))
+
     go : (t : Bool) → eqb (q .start) (q .goal) ≡ t → Accounted q s′ (left-by v (cond t (Arrived 0) Paused) [] false)
-    go true e = record
-      { stands = b .stands
-      ; announced-is-at-the-goal = λ n a. let z : 0 ≡ n = ⊎-elim (λ h. h) (λ h. absurd h) a in let lt : n < s′ .listed = omega (arith, z, b .one-label-is-listed) in (lt, λ x st. base n x lt st .1 ∙ eqb-true _ _ e)
-      ; at-the-goal-is-announced = λ i x lt st g. inl (sym (base i x lt st .0))
-      ; first-announced-is-the-first-there = λ n f i x lt st g. omega (arith, f)
-      ; ended-means-nothing-waits = λ p. absurd (true≢false (sym p))
-      }
-    go false e = record
-      { stands = b .stands
-      ; announced-is-at-the-goal = λ n a. absurd a
-      ; at-the-goal-is-announced = λ i x lt st g. absurd (eqb-false (q .start) (q .goal) e (sym (base i x lt st .1) ∙ g))
-      ; first-announced-is-the-first-there = λ n f i x lt st g. absurd f
-      ; ended-means-nothing-waits = λ p. absurd (true≢false (sym p))
-      }
+    go true e = record {
+      stands = b .stands;
+      announced-is-at-the-goal = λ n a. let z : 0 ≡ n = ⊎-elim (λ h. h) (λ h. absurd h) a in let lt : n < s′ .listed = omega (arith, z, b .one-label-is-listed) in (lt, λ x st. base n x lt st .1 ∙ eqb-true _ _ e);
+      at-the-goal-is-announced = λ i x lt st g. inl (sym (base i x lt st .0));
+      first-announced-is-the-first-there = λ n f i x lt st g. omega (arith, f);
+      ended-means-nothing-waits = λ p. absurd (true≢false (sym p));
+    }
+    go false e = record {
+      stands = b .stands;
+      announced-is-at-the-goal = λ n a. absurd a;
+      at-the-goal-is-announced = λ i x lt st g. absurd (eqb-false (q .start) (q .goal) e (sym (base i x lt st .1) ∙ g));
+      first-announced-is-the-first-there = λ n f i x lt st g. absurd f;
+      ended-means-nothing-waits = λ p. absurd (true≢false (sym p));
+    }
 
 module _ {L : Type 0} (q : Query L) (s s′ : Numbers) (o : State L) (v : Tables L) (g : Accounted q s o)
-  (same : v .labels ≡ o .labels) (stands : StandsFor q s′ (v .labels-after) (v .waiting-after))
-  (earlier : take (s .listed) (v .labels-after) ≡ take (s .listed) (v .labels)) (grown : s .listed ≤ s′ .listed) (still : s .waiting ≡ 0 → s′ .waiting ≡ 0) where
-
+    (same : v .labels ≡ o .labels) (stands : StandsFor q s′ (v .labels-after) (v .waiting-after))
+    (earlier : take (s .listed) (v .labels-after) ≡ take (s .listed) (v .labels)) (grown : s .listed ≤ s′ .listed) (still : s .waiting ≡ 0 → s′ .waiting ≡ 0) where
   -- an earlier label is as it was
   old : (i : ℕ) (x : Label L) → i < s .listed → Stored (v .labels-after) i x → Stored (o .labels) i x
   old i x lt st = stored-back (v .labels-after) (o .labels) (s .listed) i x lt (g .stands .listed-within-the-table) (earlier ∙ ap (take (s .listed)) same) st
@@ -81,22 +81,22 @@ module _ {L : Type 0} (q : Query L) (s s′ : Numbers) (o : State L) (v : Tables
   there-old n a = let (lt, at) = g .announced-is-at-the-goal n a in (omega (arith, lt, grown), λ x st. at x (old n x lt st))
 
   accounted-without-arrival : (e : Bool) → (e ≡ true → s′ .waiting ≡ 0) → NoneAt (v .labels-after) (s .listed) (s′ .listed) (q .goal) → Accounted q s′ (record { labels = v .labels-after; waiting = v .waiting-after; announced = o .announced; ended = e })
-  accounted-without-arrival e done none = record
-    { stands = stands
-    ; announced-is-at-the-goal = there-old
-    ; at-the-goal-is-announced = λ i x lt st at. ⊎-elim (λ l. g .at-the-goal-is-announced i x l (old i x l st) at) (λ l. absurd (none i x l lt st at)) (cases-lt i (s .listed))
-    ; first-announced-is-the-first-there = λ n f i x lt st at. ⊎-elim (λ l. g .first-announced-is-the-first-there n f i x l (old i x l st) at) (λ l. absurd (none i x l lt st at)) (cases-lt i (s .listed))
-    ; ended-means-nothing-waits = done
-    }
+  accounted-without-arrival e done none = record {
+    stands = stands;
+    announced-is-at-the-goal = there-old;
+    at-the-goal-is-announced = λ i x lt st at. ⊎-elim (λ l. g .at-the-goal-is-announced i x l (old i x l st) at) (λ l. absurd (none i x l lt st at)) (cases-lt i (s .listed));
+    first-announced-is-the-first-there = λ n f i x lt st at. ⊎-elim (λ l. g .first-announced-is-the-first-there n f i x l (old i x l st) at) (λ l. absurd (none i x l lt st at)) (cases-lt i (s .listed));
+    ended-means-nothing-waits = done;
+  }
 
   accounted-with-an-arrival : (m : ℕ) → s .listed ≤ m → s′ .listed ≡ m + 1 → NoneAt (v .labels-after) (s .listed) m (q .goal) → ((x : Label L) → Stored (v .labels-after) m x → x .arrival .junction ≡ q .goal) → Accounted q s′ (record { labels = v .labels-after; waiting = v .waiting-after; announced = m ∷ o .announced; ended = o .ended })
-  accounted-with-an-arrival m from end none goal = record
-    { stands = stands
-    ; announced-is-at-the-goal = λ n a. ⊎-elim (λ z. (omega (arith, z, end), λ x st. goal x (subst (λ k. Stored (v .labels-after) k x) (sym z) st))) (there-old n) a
-    ; at-the-goal-is-announced = λ i x lt st at. ⊎-elim (λ l. inr (g .at-the-goal-is-announced i x l (old i x l st) at)) (λ l. inl (⊎-elim (λ b. absurd (none i x l b st at)) (λ b. omega (arith, end, lt, b)) (cases-lt i m))) (cases-lt i (s .listed))
-    ; first-announced-is-the-first-there = λ n f i x lt st at. firsts (o .announced) refl n f i x lt st at
-    ; ended-means-nothing-waits = λ p. still (g .ended-means-nothing-waits p)
-    }
+  accounted-with-an-arrival m from end none goal = record {
+    stands = stands;
+    announced-is-at-the-goal = λ n a. ⊎-elim (λ z. (omega (arith, z, end), λ x st. goal x (subst (λ k. Stored (v .labels-after) k x) (sym z) st))) (there-old n) a;
+    at-the-goal-is-announced = λ i x lt st at. ⊎-elim (λ l. inr (g .at-the-goal-is-announced i x l (old i x l st) at)) (λ l. inl (⊎-elim (λ b. absurd (none i x l b st at)) (λ b. omega (arith, end, lt, b)) (cases-lt i m))) (cases-lt i (s .listed));
+    first-announced-is-the-first-there = λ n f i x lt st at. firsts (o .announced) refl n f i x lt st at;
+    ended-means-nothing-waits = λ p. still (g .ended-means-nothing-waits p);
+  }
     where
       firsts : (ns : List ℕ) → o .announced ≡ ns → (n : ℕ) → FirstOf (m ∷ ns) n → (i : ℕ) (x : Label L) → i < s′ .listed → Stored (v .labels-after) i x → x .arrival .junction ≡ q .goal → n ≤ i
       firsts [] z n f i x lt st at = ⊎-elim (λ l. absurd (subst (λ t. Among t i) z (g .at-the-goal-is-announced i x l (old i x l st) at))) (λ l. ⊎-elim (λ b. absurd (none i x l b st at)) (λ b. omega (arith, f, b)) (cases-lt i m)) (cases-lt i (s .listed))
@@ -148,7 +148,7 @@ advance-left-all : {L : Type 0} (rows : Rows) (m : Meaning L) (budget : ℕ) (t 
 advance-left-all rows m budget t s s′ e r = refused (advance-check s (length rows) (length (t .labels)) (length (t .waiting)) budget) e (AllUnchanged t s s′) (Advanced rows m budget t s s′) r .0
 
 accounted-after-one-call : {L : Type 0} (q : Query L) (h : History L) (c : Call L) (s s′ : Numbers) (o : State L) →
-  ((o′ : State L) → Since q o′ h → Accounted q s o′) → Promise c s s′ → Since q o (c ∷ h) → Accounted q s′ o
+    ((o′ : State L) → Since q o′ h → Accounted q s o′) → Promise c s s′ → Since q o (c ∷ h) → Accounted q s′ o
 accounted-after-one-call q h₀ c₀ s s′ o₀ before promise (begun h t answer) = accounted-once-begun q t s′ answer (begin-accepted q t s s′ answer promise)
 accounted-after-one-call q h₀ c₀ s s′ o₀ before promise (advanced h o rows m budget t p since er em el ew) =
     let g = before o since in

@@ -65,9 +65,10 @@ same-query q capacity ek el = λ i. record { rows = q .rows; kind = sym ek i; st
 rows-told : (q : Query Profile) (s : Numbers) (o : State Profile) (c : Charting) (count : ℕ) → Accounted q s o → 1 ≤ c .capacity → c .capacity ≤ 100000 → profiles (c .capacity) ≡ q .kind → c .labels ≡ o .labels
     → ChartAnswered (chart-check s (c .capacity) (c .labels)) (chart (s .goal) (take (s .listed) (c .labels))) (c .rows) (c .rows-after) (Ok count)
     → RowsTellLeastTimes (trip-of q (c .capacity)) (take count (c .rows-after)) × (o .ended ≡ true → NoWalkWithoutARow (trip-of q (c .capacity)) (take count (c .rows-after)))
-rows-told q s o c count g lo hi ek es r =
-    ( subst (λ (rs : List Row). RowsTellLeastTimes (trip-of q (c .capacity)) rs) (sym rows-are) (of-the-trip .rows-tell-least-times (take (s .listed) (o .labels)) (labels-of (take (s .waiting) (o .waiting))) invariant)
-    , λ e. subst (λ (rs : List Row). NoWalkWithoutARow (trip-of q (c .capacity)) rs) (sym rows-are) (of-the-trip .nothing-waits-so-no-walk-without-a-row (take (s .listed) (o .labels)) (subst (λ (m : ℕ). Invariant (profile-query (trip-of q (c .capacity))) (take (s .listed) (o .labels)) (labels-of (take m (o .waiting)))) (g .ended-means-nothing-waits e) invariant)) )
+rows-told q s o c count g lo hi ek es r = (
+  subst (λ (rs : List Row). RowsTellLeastTimes (trip-of q (c .capacity)) rs) (sym rows-are) (of-the-trip .rows-tell-least-times (take (s .listed) (o .labels)) (labels-of (take (s .waiting) (o .waiting))) invariant),
+  λ e. subst (λ (rs : List Row). NoWalkWithoutARow (trip-of q (c .capacity)) rs) (sym rows-are) (of-the-trip .nothing-waits-so-no-walk-without-a-row (take (s .listed) (o .labels)) (subst (λ (m : ℕ). Invariant (profile-query (trip-of q (c .capacity))) (take (s .listed) (o .labels)) (labels-of (take m (o .waiting)))) (g .ended-means-nothing-waits e) invariant)),
+)
   where
     of-the-trip : ChartTheorems (trip-of q (c .capacity))
     of-the-trip = theorems .charts (trip-of q (c .capacity)) (record { sound = g .stands .valid .sound; capacity-at-least-1 = lo; capacity-at-most-100000 = hi })

@@ -57,8 +57,9 @@ every-unbeaten-is-listed q s ls ws st none =
 
 known-after : {L : Type 0} (q : Query L) (s : Numbers) (o : State L) → Accounted q s o → KnownAfter q o
 known-after q s o g = record {
-    each-announced = each-is-announced q s o g;
-    all-announced-once-ended = λ e. all-announced q s o g (every-unbeaten-is-listed q s (o .labels) (o .waiting) (g .stands) (g .ended-means-nothing-waits e)) }
+  each-announced = each-is-announced q s o g;
+  all-announced-once-ended = λ e. all-announced q s o g (every-unbeaten-is-listed q s (o .labels) (o .waiting) (g .stands) (g .ended-means-nothing-waits e));
+}
 
 -- an accepted trace of an announced label tells a drivable walk to it
 written : {L : Type 0} (check : Option Refusal) (s : Numbers) (ls : List (Label L)) (n count : ℕ) (walk walk′ : List (Leg L)) → TraceAnswered check s ls n walk walk′ (Ok count) → TraceWritten s ls n walk walk′ count
@@ -77,15 +78,17 @@ ended-or-full : {L : Type 0} (q : Query L) (ls : List (Label L)) (a b budget : �
 ended-or-full q ls a b budget Paused d lt none = absurd (omega (arith, d .0, lt))
 ended-or-full q ls a b budget (Arrived n) d lt none = absurd (none n refl)
 ended-or-full q ls a b budget Ended d lt none = record {
-    ended-exactly-when-every-unbeaten-is-listed = (λ e. d .2, λ e. refl);
-    full-exactly-when-all-are-used-and-some-unbeaten-is-unlisted = (λ e. absurd (let z : _≡_ {A = ℕ} 0 1 = cc e in omega (arith, z)), λ f. absurd (f .1 .2 (d .2 (f .1 .0) (f .1 .1)))) }
+  ended-exactly-when-every-unbeaten-is-listed = (λ e. d .2, λ e. refl);
+  full-exactly-when-all-are-used-and-some-unbeaten-is-unlisted = (λ e. absurd (let z : _≡_ {A = ℕ} 0 1 = cc e in omega (arith, z)), λ f. absurd (f .1 .2 (d .2 (f .1 .0) (f .1 .1))));
+}
 ended-or-full q ls a b budget Full d lt none = record {
-    ended-exactly-when-every-unbeaten-is-listed = (λ e. absurd (let z : _≡_ {A = ℕ} 0 1 = cc e in omega (arith, z)), λ all. absurd (d .3 .2 (all (d .3 .0) (d .3 .1))));
-    full-exactly-when-all-are-used-and-some-unbeaten-is-unlisted = (λ e. (d .2, d .3), λ f. refl) }
+  ended-exactly-when-every-unbeaten-is-listed = (λ e. absurd (let z : _≡_ {A = ℕ} 0 1 = cc e in omega (arith, z)), λ all. absurd (d .3 .2 (all (d .3 .0) (d .3 .1))));
+  full-exactly-when-all-are-used-and-some-unbeaten-is-unlisted = (λ e. (d .2, d .3), λ f. refl);
+}
 
 known-of : {L : Type 0} (Told : Query L → State L → Charting → Type 0) (q : Query L) (h : History L) (c : Call L) (s s′ : Numbers) (o : State L) →
-  ((o : State L) (x : Charting) → Accounted q s o → ChartPromise x s → Told q o x) →
-  ((o′ : State L) → Since q o′ h → Accounted q s o′) → Promise c s s′ → Since q o (c ∷ h) → KnownOf Told q o c
+    ((o : State L) (x : Charting) → Accounted q s o → ChartPromise x s → Told q o x) →
+    ((o′ : State L) → Since q o′ h → Accounted q s o′) → Promise c s s′ → Since q o (c ∷ h) → KnownOf Told q o c
 known-of Told q h₀ c₀ s s′ o₀ tells before promise (begun h t answer) = tt
 known-of Told q h₀ c₀ s s′ o₀ tells before promise (advanced h o rows m budget t p since er em el ew) = λ lt none.
     let g = before o since in
@@ -101,12 +104,13 @@ known-of Told q h₀ c₀ s s′ o₀ tells before promise (left-by-other-loads 
 
 -- every run keeps the law, with whatever is told by charts of a search that is accounted for
 pub every-run-keeps : {L : Type 0} (Told : Query L → State L → Charting → Type 0) →
-  ((q : Query L) (s : Numbers) (o : State L) (x : Charting) → Accounted q s o → ChartPromise x s → Told q o x) →
-  (h : History L) (s : Numbers) → Run h s → Keeps Told h
+    ((q : Query L) (s : Numbers) (o : State L) (x : Charting) → Accounted q s o → ChartPromise x s → Told q o x) →
+    (h : History L) (s : Numbers) → Run h s → Keeps Told h
 every-run-keeps Told tells h₀ s₀ (new-search s b) = tt
-every-run-keeps Told tells h₀ s₀ (one-call-more h c s s′ run promise) =
-    ( (λ q o since. (known-after q s′ o (accounted q (c ∷ h) s′ o (one-call-more h c s s′ run promise) since), known-of Told q h c s s′ o (tells q s) (λ o′ t. accounted q h s o′ run t) promise since))
-    , every-run-keeps Told tells h s run )
+every-run-keeps Told tells h₀ s₀ (one-call-more h c s s′ run promise) = (
+  (λ q o since. (known-after q s′ o (accounted q (c ∷ h) s′ o (one-call-more h c s s′ run promise) since), known-of Told q h c s s′ o (tells q s) (λ o′ t. accounted q h s o′ run t) promise since)),
+  every-run-keeps Told tells h s run,
+)
 
 pub law : (L : Type 0) → Law L
 law L = every-run-keeps NothingToldOfCharts (λ q s o x g p. tt)

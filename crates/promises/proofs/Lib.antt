@@ -1,3 +1,4 @@
+pub mod Orders
 pub mod Records
 pub mod ListedLabels
 pub mod Accounts

@@ -51,9 +51,9 @@ module _ {L : Type 0} (q : Query L) (s : Numbers) (ls : List (Label L)) (ws : Li
           let hi : i < s .listed = below-take ls (s .listed) i y (h, e) in
           let le : n ≤ i = least i y hi sy (j ∙ goal) in
           ⊎-elim
-            (λ l. not-before-itself (q .kind) (x .arrival) (before-is-transitive (q .kind) (x .arrival) (y .arrival) (x .arrival) (listed-in-order n i x y l hi p sy) b))
-            (λ l. let z : i ≡ n = omega (arith, l, le) in let same : y ≡ x = sym (sy .1 x) ∙ (ap (λ (k : ℕ). getD ls k x) z ∙ p .1 x) in not-before-itself (q .kind) (x .arrival) (subst (λ (w : Label L). Before (q .kind) (w .arrival) (x .arrival)) same b))
-            (cases-lt n i)
+          (λ l. not-before-itself (q .kind) (x .arrival) (before-is-transitive (q .kind) (x .arrival) (y .arrival) (x .arrival) (listed-in-order n i x y l hi p sy) b))
+          (λ l. let z : i ≡ n = omega (arith, l, le) in let same : y ≡ x = sym (sy .1 x) ∙ (ap (λ (k : ℕ). getD ls k x) z ∙ p .1 x) in not-before-itself (q .kind) (x .arrival) (subst (λ (w : Label L). Before (q .kind) (w .arrival) (x .arrival)) same b))
+          (cases-lt n i)
 
   pub listed-has-a-traced-walk : (i : ℕ) (x : Label L) → i < s .listed → Stored ls i x → (w : List (Leg L)) × Traces ls i w × TracedWalk q ls i x w
   listed-has-a-traced-walk i x lt p = let (w, t, r) = links-of-a-listed-label-trace-a-walk-to-it q (take (s .listed) ls) (labels-of (take (s .waiting) ws)) (st .invariant) i x (stored-take ls (s .listed) i x lt (st .listed-within-the-table) p) in (w, traces-take ls (s .listed) i w t, record { drives = r .drives; beginnings = λ k h. let (j, y, le, sy, ry) = r .beginnings k h in (j, y, le, take-stored ls (s .listed) j y sy, ry) })

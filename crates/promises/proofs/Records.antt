@@ -29,7 +29,6 @@ stored-some [] i h = absurd (omega (arith, h))
 stored-some (x ∷ xs) zero h = (x, (h, λ d. refl))
 stored-some (x ∷ xs) (suc i) h = let (y, st) = stored-some xs i (omega (arith, h)) in (y, (h, λ d. st .1 d))
 
-
 -- tables whose first n records are the same
 pub stored-back : {X : Type 0} (xs ys : List X) (n i : ℕ) (x : X) → i < n → n ≤ length ys → take n xs ≡ take n ys → Stored xs i x → Stored ys i x
 stored-back xs ys n i x lt le e s = (omega (arith, lt, le), λ d. sym (getD-take n ys i d lt) ∙ ap (λ t. getD t i d) (sym e) ∙ getD-take n xs i d lt ∙ s .1 d)

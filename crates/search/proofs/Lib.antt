@@ -1,0 +1,9 @@
+mod Scanning
+mod Queueing
+mod OnTheFront
+mod Stepping
+mod Beginning
+mod Turning
+mod WalkingBack
+mod ChartGrowth
+mod Answering

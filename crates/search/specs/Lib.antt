@@ -1,0 +1,3 @@
+pub mod SearchNumbers
+pub mod Steps
+pub mod Turns
