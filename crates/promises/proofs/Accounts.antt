@@ -27,7 +27,7 @@ use Rattle.promises.specs.Refuses.{Refuses}
 use Rattle.promises.specs.Begin.{begin-check, Begun, BeginPromise}
 use Rattle.promises.specs.Advance.{advance-check, StandingSays, NoneAt, Advanced, AdvancedFor, AdvancePromise}
 use Rattle.promises.specs.Runs.{Call, History, Promise, Run}
-use Rattle.promises.specs.Runs.Run.{new-search, one-call-more}
+use Rattle.promises.specs.Runs.Run.{no-call-yet, one-call-more}
 use Rattle.promises.specs.Law.{State, Since, Among, FirstOf, left-by}
 use Rattle.promises.specs.Law.Since.{begun, advanced, traced, charted, begin-refused, advance-refused, left-by-other-loads}
 use Rattle.promises.proofs.Records.{stored-back}
@@ -161,5 +161,5 @@ accounted-after-one-call q h₀ c₀ s s′ o₀ before promise (advance-refused
 accounted-after-one-call q h₀ c₀ s s′ o₀ before promise (left-by-other-loads h o since) = subst (λ x. Accounted q x o) (sym (promise refl)) (before o since)
 
 pub accounted : {L : Type 0} (q : Query L) (h : History L) (s : Numbers) (o : State L) → Run h s → Since q o h → Accounted q s o
-accounted q h₀ s₀ o (new-search s b) since = absurd (none-yet q o since)
+accounted q h₀ s₀ o (no-call-yet s b) since = absurd (none-yet q o since)
 accounted q h₀ s₀ o (one-call-more h c s s′ run promise) since = accounted-after-one-call q h c s s′ o (λ o′ t. accounted q h s o′ run t) promise since

@@ -26,7 +26,7 @@ use Rattle.promises.specs.Advance.{StandingSays, EveryUnbeatenListed}
 use Rattle.promises.specs.Trace.{trace-check, TraceAnswered, TracePromise, TraceWritten}
 use Rattle.promises.specs.Chart.{Charting, ChartPromise}
 use Rattle.promises.specs.Runs.{Call, History, Promise, Run}
-use Rattle.promises.specs.Runs.Run.{new-search, one-call-more}
+use Rattle.promises.specs.Runs.Run.{no-call-yet, one-call-more}
 use Rattle.promises.specs.Law.{State, Since, Among, Announced, AnnouncedTrace, AllAtTheGoalAnnounced, EndedOrFull, NoArrival, KnownOf, KnownAfter, Keeps}
 use Rattle.promises.specs.Law.Since.{begun, advanced, traced, charted, begin-refused, advance-refused, left-by-other-loads}
 use Rattle.promises.proofs.Records.{take-stored, below-take, stored-some}
@@ -106,7 +106,7 @@ known-of Told q h₀ c₀ s s′ o₀ tells before promise (left-by-other-loads 
 pub every-run-keeps : {L : Type 0} (Told : Query L → State L → Charting → Type 0) →
     ((q : Query L) (s : Numbers) (o : State L) (x : Charting) → Accounted q s o → ChartPromise x s → Told q o x) →
     (h : History L) (s : Numbers) → Run h s → Keeps Told h
-every-run-keeps Told tells h₀ s₀ (new-search s b) = tt
+every-run-keeps Told tells h₀ s₀ (no-call-yet s b) = tt
 every-run-keeps Told tells h₀ s₀ (one-call-more h c s s′ run promise) = (
   (λ q o since. (known-after q s′ o (accounted q (c ∷ h) s′ o (one-call-more h c s s′ run promise) since), known-of Told q h c s s′ o (tells q s) (λ o′ t. accounted q h s o′ run t) promise since)),
   every-run-keeps Told tells h s run,

@@ -41,5 +41,5 @@ Promise (with-other-loads unchanged) s s′ = unchanged ≡ true → s′ ≡ s
 
 -- the calls of h, from a new search on, each as it promises, leave the numbers s
 pub data Run {L : Type 0} : History L → Numbers → Type 0 where
-  new-search : (s : Numbers) → s .begun ≡ false → Run [] s
+  no-call-yet : (s : Numbers) → s .begun ≡ false → Run [] s
   one-call-more : (h : History L) (c : Call L) (s s′ : Numbers) → Run h s → Promise c s s′ → Run (c ∷ h) s′

@@ -5,7 +5,6 @@ ghost use denote.Ref.{name, now as behind};
 ghost use lib.ListN.{length};
 use crate::entry::Entry;
 
-mod calls;
 mod sifts;
 
 /// The entries that wait are the first `len` of the slice.

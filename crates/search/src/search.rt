@@ -1,9 +1,8 @@
 //! The numbers that a search keeps of its own.
 ghost use Prim.Native.Nat.{_≤_, _*_};
 
-mod advance;
-mod begin;
 mod chart;
+mod listing;
 mod trace;
 
 /// A search. Its label table and its waiting table are lent to each call that needs them.

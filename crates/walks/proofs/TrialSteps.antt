@@ -9,11 +9,12 @@ use Rattle.std.proofs.shelf.Lists.{drop-all}
 use Rattle.std.specs.declared.result.Result.the-variants.{Ok, Err}
 use Rattle.maps.specs.Rows.{Rows}
 use Rattle.loads.specs.Meaning.{Meaning}
-use Rattle.walks.specs.declared.arrival.Arrival.{Arrival}
-use Rattle.walks.specs.declared.leg.Leg.{Leg}
+use Rattle.front.specs.declared.arrival.Arrival.{Arrival}
+use Rattle.front.specs.declared.leg.Leg.{Leg}
 use Rattle.walks.specs.declared.trial.Ending.{Ending}
 use Rattle.walks.specs.declared.trial.Ending.the-variants.{Arrived}
-use Rattle.walks.specs.Trial.{step-by-place, go-on-or-stop, leg-of, legs-driven, ending-of}
+use Rattle.front.specs.Legs.{leg-of}
+use Rattle.walks.specs.Trial.{step-by-place, legs-driven, ending-of}
 
 module _ {L : Type 0} (rows : Rows) (m : Meaning L) (deadline : ℕ) (a : Arrival L) (places : List ℕ) (i : ℕ) where
   module _ (inside : i < length places) where

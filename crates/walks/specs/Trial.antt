@@ -17,8 +17,9 @@ use Rattle.maps.specs.Rows.{Rows, at}
 use Rattle.maps.specs.FirstFailure.{first-failure}
 use Rattle.loads.specs.Meaning.{Meaning}
 use Rattle.loads.specs.Charge.{charge, charges}
-use Rattle.walks.specs.declared.arrival.Arrival.{Arrival}
-use Rattle.walks.specs.declared.leg.Leg.{Leg}
+use Rattle.front.specs.declared.arrival.Arrival.{Arrival}
+use Rattle.front.specs.declared.leg.Leg.{Leg}
+use Rattle.front.specs.Legs.{leg-of}
 use Rattle.walks.specs.declared.trial.Trial.{Trial}
 use Rattle.walks.specs.declared.trial.NoTrial.{NoTrial}
 use Rattle.walks.specs.declared.trial.NoTrial.the-variants.{Refused, OutOfMemory}
@@ -43,9 +44,6 @@ abbrev pub go-on-or-stop : {L X : Type 0} → Result (Arrival L) Ending → (Arr
 go-on-or-stop (Ok b) go-on stop = go-on b
 go-on-or-stop (Err ending) go-on stop = stop ending
 
-abbrev pub leg-of : {L : Type 0} → Arrival L → ℕ → Arrival L → Leg L
-leg-of a k b = record { junction = a .junction; place = k; time = b .time; load = b .load }
-
 -- the legs driven from a by the places of a walk, up to the first road that cannot be driven
 unfoldable pub legs-driven : {L : Type 0} → Rows → Meaning L → ℕ → Arrival L → List ℕ → List (Leg L)
 legs-driven rows m deadline a [] = []
@@ -57,8 +55,8 @@ ending-of rows m deadline a [] = Arrived
 ending-of rows m deadline a (k ∷ ks) = go-on-or-stop (step-by-place rows m deadline a k) (λ b. ending-of rows m deadline b ks) (λ ending. ending)
 
 -- the arrival of the empty walk
-abbrev pub departure : {L : Type 0} → ℕ → L → Arrival L
-departure start f = record { junction = start; time = 0; load = f }
+abbrev pub at-the-start : {L : Type 0} → ℕ → L → Arrival L
+at-the-start start f = record { junction = start; time = 0; load = f }
 
 abbrev pub place-fault : List ℕ → ℕ → Option Refusal
 place-fault places i = cond (ltb 11 (getD places i 0)) (Some PlaceAboveEleven) None

@@ -1,4 +1,2 @@
 //! Walks driven road by road: where a van is, what it carries, and where it can go no further.
-pub mod arrival;
-pub mod leg;
 pub mod trial;

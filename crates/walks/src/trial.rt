@@ -7,9 +7,9 @@ ghost use Rattle.std.specs.Vec.{made};
 ghost use Rattle.maps.specs.FirstFailure.{first-failure};
 ghost use Rattle.maps.specs.Heater.{heated-rows};
 ghost use Rattle.loads.specs.Charge.{charge as charge-of, charges};
-ghost use Rattle.walks.specs.Trial.{step-by-place, legs-driven, ending-of, departure, place-fault, trial-refusal, charged-trial-refusal, Tried};
-use crate::arrival::Arrival;
-use crate::leg::Leg;
+ghost use Rattle.walks.specs.Trial.{step-by-place, legs-driven, ending-of, at-the-start, place-fault, trial-refusal, charged-trial-refusal, Tried};
+use front::arrival::Arrival;
+use front::leg::Leg;
 use loads::Kind;
 use loads::charge::Charge;
 use loads::charge::ChargeKind;
@@ -130,7 +130,7 @@ fn drive_places<M: Map, K: Kind>(
     deadline: u32,
     places: &[u32],
 ) -> Result<Trial<K::Load>, AllocError>
-    ensures { λ r. ⌜ made r (λ t. (vec-items (t .legs) ≡ legs-driven (M·Map .rows (now (map .entry))) (K·Kind .meaning (now (kind .entry))) deadline (departure start load) (now (places .entry))) × (t .ending ≡ ending-of (M·Map .rows (now (map .entry))) (K·Kind .meaning (now (kind .entry))) deadline (departure start load) (now (places .entry)))) ⌝ }
+    ensures { λ r. ⌜ made r (λ t. (vec-items (t .legs) ≡ legs-driven (M·Map .rows (now (map .entry))) (K·Kind .meaning (now (kind .entry))) deadline (at-the-start start load) (now (places .entry))) × (t .ending ≡ ending-of (M·Map .rows (now (map .entry))) (K·Kind .meaning (now (kind .entry))) deadline (at-the-start start load) (now (places .entry)))) ⌝ }
 {
     let mut legs = Vec::new(heap);
     let mut van = Arrival {
@@ -172,8 +172,8 @@ pub fn try_walk<M: Map, K: Kind>(
 ) -> Result<Trial<K::Load>, NoTrial>
     ensures legs_up_to_the_first_road_that_cannot_be_driven { λ r. ⌜ Tried
         (trial-refusal (length (M·Map .rows (now (map .entry)))) (K·Kind .meaning (now (kind .entry))) start load deadline (now (places .entry)))
-        (legs-driven (M·Map .rows (now (map .entry))) (K·Kind .meaning (now (kind .entry))) deadline (departure start load) (now (places .entry)))
-        (ending-of (M·Map .rows (now (map .entry))) (K·Kind .meaning (now (kind .entry))) deadline (departure start load) (now (places .entry))) r ⌝ }
+        (legs-driven (M·Map .rows (now (map .entry))) (K·Kind .meaning (now (kind .entry))) deadline (at-the-start start load) (now (places .entry)))
+        (ending-of (M·Map .rows (now (map .entry))) (K·Kind .meaning (now (kind .entry))) deadline (at-the-start start load) (now (places .entry))) r ⌝ }
 {
     if let Some(refusal) = check(map, kind, start, load, deadline, places) {
         return Err(NoTrial::Refused(refusal));
@@ -197,8 +197,8 @@ pub fn try_charged_walk<M: Map + Drop>(
 ) -> Result<Trial<Charge>, NoTrial>
     ensures legs_of_the_charge_over_the_heated_map { λ r. ⌜ Tried
         (charged-trial-refusal (length (M·Map .rows map)) watts capacity start level (now (places .entry)))
-        (legs-driven (heated-rows watts (M·Map .rows map)) (charges capacity) 999999 (departure start (charge-of level)) (now (places .entry)))
-        (ending-of (heated-rows watts (M·Map .rows map)) (charges capacity) 999999 (departure start (charge-of level)) (now (places .entry))) r ⌝ }
+        (legs-driven (heated-rows watts (M·Map .rows map)) (charges capacity) 999999 (at-the-start start (charge-of level)) (now (places .entry)))
+        (ending-of (heated-rows watts (M·Map .rows map)) (charges capacity) 999999 (at-the-start start (charge-of level)) (now (places .entry))) r ⌝ }
 {
     let power = Power::new(watts)?;
     let kind = ChargeKind::new(capacity)?;

@@ -10,6 +10,8 @@ ghost use Rattle.queue.specs.Waiting.{slots, OverSameSlice, First};
 use super::Heap;
 use crate::entry::Entry;
 
+mod calls;
+
 /// Whether the entry at `a` of a slice comes before the one at `b`.
 fn comes_before<E: Entry>(entries: &[E], a: usize, b: usize) -> bool
     requires { ⌜ (a < length (now entries)) × (b < length (now entries)) ⌝ }
@@ -20,7 +22,7 @@ fn comes_before<E: Entry>(entries: &[E], a: usize, b: usize) -> bool
 
 impl<'a, E: Entry> Heap<'a, E> {
     /// The entry in the first place.
-    pub(super) fn first(&self) -> E
+    fn first(&self) -> E
         requires { ⌜ 0 < now self .len ⌝ }
         ensures { λ r. ⌜ First earlier (now (self .entry)) r ⌝ }
     {
@@ -28,7 +30,7 @@ impl<'a, E: Entry> Heap<'a, E> {
     }
 
     /// Writes an entry behind the first `count` and moves it up among them.
-    pub(super) fn insert(&mut self, count: usize, entry: E)
+    fn insert(&mut self, count: usize, entry: E)
         requires { ⌜ count < length (slots (now self)) ⌝ }
         ensures over_the_same_slice { λ _. ⌜ OverSameSlice (now (self .entry)) (now (self .exit)) ⌝ }
         ensures count_unchanged { λ _. ⌜ now (self .exit) .len ≡ now (self .entry) .len ⌝ }
@@ -41,7 +43,7 @@ impl<'a, E: Entry> Heap<'a, E> {
     }
 
     /// Moves the last of the first `count` entries into the first place, over the one there, and down among them.
-    pub(super) fn remove_first(&mut self, count: usize)
+    fn remove_first(&mut self, count: usize)
         requires { ⌜ (0 < count) × (count ≤ length (slots (now self))) ⌝ }
         ensures over_the_same_slice { λ _. ⌜ OverSameSlice (now (self .entry)) (now (self .exit)) ⌝ }
         ensures count_unchanged { λ _. ⌜ now (self .exit) .len ≡ now (self .entry) .len ⌝ }

@@ -1,5 +1,5 @@
 use mathlib.Core.Path.{_≡_, refl, sym, ap, subst, _∙_}
-use mathlib.Core.Bool.{Bool, cond}
+use mathlib.Core.Bool.{Bool, true, cond}
 use native.Mathlib.Omega.{arith}
 use borrow.Author.Needs.{needs}
 use Prim.Native.Nat.{_≤_}
@@ -8,7 +8,7 @@ use Rattle.std.specs.declared.result.Result.the-variants.{Ok, Err}
 use Rattle.std.proofs.shelf.Tests.{eq-eqb, ne-eqb}
 use Rattle.front.specs.Walks.{Query, Valid}
 use Rattle.promises.specs.declared.standing.Standing.the-variants.{Paused, Arrived}
-use Rattle.promises.specs.Numbers.{tables, AllUnchanged}
+use Rattle.promises.specs.Numbers.{Numbers, tables, AllUnchanged}
 use Rattle.promises.specs.Order.{leaves-before}
 use Rattle.promises.specs.Begin.{query, Begun}
 use Rattle.search.specs.SearchNumbers.{numbers}
@@ -36,9 +36,12 @@ returns-then-start-goal g c =
     let q = query (g .M·Map .rows (c .args .map .now)) (g .K·Kind .meaning (c .args .kind .now)) (c .args .start) (c .args .load) (c .args .goal) (c .args .deadline) in
     let t = tables (c .args .labels .now) (c .args .waiting .now) (c .put .last .labels) (c .push-roads-used .last .waiting) in
     let p = passed (length (g .M·Map .rows (c .args .map .now))) (g .K·Kind .meaning (c .args .kind .now) .admits (c .args .load)) (c .args .start) (c .args .goal) (c .args .deadline) (length (c .args .labels .now)) (length (c .args .waiting .now)) (c .in-rest .ensures tt) in
+    let el : length (c .put .last .labels) ≡ length (c .args .labels .now) = search needs in
+    let ew : length (c .push-roads-used .last .waiting) ≡ length (c .args .waiting .now) = search needs in
+    let s′ : Numbers = record { begun = true; junctions = c .junctions .result; goal = c .args .goal; deadline = c .args .deadline; room = length (c .args .labels .now); width = length (c .args .waiting .now); listed = 1; waiting = c .push-roads-used .result } in
     let valid : Valid q = record { sound = g .M·Map .sound (c .args .map .now); lawful = g .K·Kind .lawful (c .args .kind .now); admitted = p .admitted } in
-    begin-keeps q t (numbers (c .args .self .now)) _ (Ok (Arrived 0)) (accepts _ (Arrived 0) (AllUnchanged t (numbers (c .args .self .now)) _) (Begun q t _) (c .in-rest .ensures tt) (record {
-      stands = first-stands q valid _ (c .args .labels .now) (c .put .last .labels) (c .push-roads-used .last .waiting) refl (c .junctions .ensures) refl refl refl refl refl (p .some) (c .put .ensures) (c .push-roads-used .ensures .heaped (heaped-zero leaves-before (c .args .waiting .now))) (c .push-roads-used .ensures .grown);
+    begin-keeps q t (numbers (c .args .self .now)) s′ (Ok (Arrived 0)) (accepts _ (Arrived 0) (AllUnchanged t (numbers (c .args .self .now)) s′) (Begun q t s′) (c .in-rest .ensures tt) (record {
+      stands = first-stands q valid s′ (c .args .labels .now) (c .put .last .labels) (c .push-roads-used .last .waiting) refl (c .junctions .ensures) refl refl (sym el) (sym ew) refl (p .some) (c .put .ensures) (c .push-roads-used .ensures .heaped (heaped-zero leaves-before (c .args .waiting .now))) (c .push-roads-used .ensures .grown);
       one-label-is-listed = refl;
       arrived-exactly-when-start-is-goal = sym (ap (λ (b : Bool). cond b (Arrived 0) Paused) (eq-eqb (c .args .start) (c .args .goal) (c .if-start-goal .taken)));
       label-0-is-the-empty-walk = c .put .ensures;
@@ -49,9 +52,12 @@ returns g c =
     let q = query (g .M·Map .rows (c .args .map .now)) (g .K·Kind .meaning (c .args .kind .now)) (c .args .start) (c .args .load) (c .args .goal) (c .args .deadline) in
     let t = tables (c .args .labels .now) (c .args .waiting .now) (c .put .last .labels) (c .push-roads-used .last .waiting) in
     let p = passed (length (g .M·Map .rows (c .args .map .now))) (g .K·Kind .meaning (c .args .kind .now) .admits (c .args .load)) (c .args .start) (c .args .goal) (c .args .deadline) (length (c .args .labels .now)) (length (c .args .waiting .now)) (c .in-rest .ensures tt) in
+    let el : length (c .put .last .labels) ≡ length (c .args .labels .now) = search needs in
+    let ew : length (c .push-roads-used .last .waiting) ≡ length (c .args .waiting .now) = search needs in
+    let s′ : Numbers = record { begun = true; junctions = c .junctions .result; goal = c .args .goal; deadline = c .args .deadline; room = length (c .args .labels .now); width = length (c .args .waiting .now); listed = 1; waiting = c .push-roads-used .result } in
     let valid : Valid q = record { sound = g .M·Map .sound (c .args .map .now); lawful = g .K·Kind .lawful (c .args .kind .now); admitted = p .admitted } in
-    begin-keeps q t (numbers (c .args .self .now)) _ (Ok Paused) (accepts _ Paused (AllUnchanged t (numbers (c .args .self .now)) _) (Begun q t _) (c .in-rest .ensures tt) (record {
-      stands = first-stands q valid _ (c .args .labels .now) (c .put .last .labels) (c .push-roads-used .last .waiting) refl (c .junctions .ensures) refl refl refl refl refl (p .some) (c .put .ensures) (c .push-roads-used .ensures .heaped (heaped-zero leaves-before (c .args .waiting .now))) (c .push-roads-used .ensures .grown);
+    begin-keeps q t (numbers (c .args .self .now)) s′ (Ok Paused) (accepts _ Paused (AllUnchanged t (numbers (c .args .self .now)) s′) (Begun q t s′) (c .in-rest .ensures tt) (record {
+      stands = first-stands q valid s′ (c .args .labels .now) (c .put .last .labels) (c .push-roads-used .last .waiting) refl (c .junctions .ensures) refl refl (sym el) (sym ew) refl (p .some) (c .put .ensures) (c .push-roads-used .ensures .heaped (heaped-zero leaves-before (c .args .waiting .now))) (c .push-roads-used .ensures .grown);
       one-label-is-listed = refl;
       arrived-exactly-when-start-is-goal = sym (ap (λ (b : Bool). cond b (Arrived 0) Paused) (ne-eqb (c .args .start) (c .args .goal) (c .if-start-goal .left)));
       label-0-is-the-empty-walk = c .put .ensures;
