@@ -2,7 +2,6 @@ pub mod Meaning
 pub mod Laws
 pub mod Charge
 pub mod Profile
-pub mod WorkedDrives
 pub mod Picked
 pub mod ChargeLaws
 pub mod ProfileLaws

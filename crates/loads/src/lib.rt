@@ -6,7 +6,6 @@ use maps::road::Road;
 
 pub mod charge;
 pub mod profile;
-pub mod worked;
 
 /// A kind of load. Its calls answer by its meaning, refuse nothing and alter nothing;
 /// of a value that is no load the rank is 0 and every other answer is no.

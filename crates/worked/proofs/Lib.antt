@@ -1,0 +1,9 @@
+pub mod ListTests
+pub mod FrontTest
+pub mod FrontTestSound
+pub mod WorkedMaps
+pub mod WorkedQuery
+pub mod Advances
+pub mod WorkedTrip
+pub mod Draws
+pub mod LoopQuery
