@@ -57,10 +57,11 @@ concluded check q n answer e x = subst (λ o. AnsweredBy o q n answer) (sym e) x
 -- the start is the goal
 pub already-there : (q : Query Charge) (level : ℕ) → q .start ≡ q .goal → q .load ≡ charge level → FastestDrive q 0 level 0
 already-there q level there load = record {
-    walk = [];
-    drives-to-the-goal = subst (λ (a : Arrival Charge). Drives q [] a) (λ i. record { junction = there i; time = 0; load = load i }) empty-walk;
-    of-so-many-roads = refl;
-    none-faster = λ a r g. omega arith }
+  walk = [];
+  drives-to-the-goal = subst (λ (a : Arrival Charge). Drives q [] a) (λ i. record { junction = there i; time = 0; load = load i }) empty-walk;
+  of-so-many-roads = refl;
+  none-faster = λ a r g. omega arith;
+}
 
 module _ (q : Query Charge) (s s′ : Numbers) (ls ls′ : List (Label Charge)) (ws ws′ : List (Candidate Charge)) (st : StandsFor q s ls ws) (one : s .listed ≡ 1) (elsewhere : q .start ≡ q .goal → ⊥)
     (budget : ℕ) (p : Progress) (adv : Advanced (q .rows) (q .kind) budget (tables ls ws ls′ ws′) s s′ p) (roomy : length ls ≤ budget) where
@@ -91,11 +92,12 @@ module _ (q : Query Charge) (s s′ : Numbers) (ls ls′ : List (Label Charge)) 
 
   pub full-means-more : p .standing ≡ Full → FrontHasMore q (length ls)
   full-means-more e = record {
-      labels = ls′;
-      all-used = adv .labels-keep-their-length;
-      begin-the-front = subst (λ (xs : List (Label Charge)). FrontBegins q (arrivals xs)) (take-all (p .«listed_in_all») ls′ (omega (arith, adv .counts-all-listed, says Full e .2))) (after .listed-labels-begin-the-front);
-      none-at-the-goal = subst (λ n. NoneAt ls′ 0 n (q .goal)) used (from-the-first (s′ .listed) (says Full e .1));
-      some-unlisted = subst (λ n. SomeUnbeatenUnlisted q ls′ n) used (says Full e .3) }
+    labels = ls′;
+    all-used = adv .labels-keep-their-length;
+    begin-the-front = subst (λ (xs : List (Label Charge)). FrontBegins q (arrivals xs)) (take-all (p .«listed_in_all») ls′ (omega (arith, adv .counts-all-listed, says Full e .2))) (after .listed-labels-begin-the-front);
+    none-at-the-goal = subst (λ n. NoneAt ls′ 0 n (q .goal)) used (from-the-first (s′ .listed) (says Full e .1));
+    some-unlisted = subst (λ n. SomeUnbeatenUnlisted q ls′ n) used (says Full e .3);
+  }
     where
       used : s′ .listed ≡ length ls
       used = says Full e .2 ∙ adv .labels-keep-their-length
@@ -110,16 +112,17 @@ module _ (q : Query Charge) (s s′ : Numbers) (ls ls′ : List (Label Charge)) 
       let (w, x, here, traced, counted) = roads q ws′ (after .stands) lt in
       let goal = said .3 x here in
       subst (λ (y : Label Charge). FastestDrive q (y .arrival .time) (y .arrival .load .level) count) (sym (here .1 d)) (record {
-          walk = places w;
-          drives-to-the-goal = subst (λ (a : Arrival Charge). Drives q (places w) a) (λ i. record { junction = goal i; time = x .arrival .time; load = x .arrival .load }) (legs-drive-their-places q (traced .drives));
-          of-so-many-roads = length-map w (λ l. l .place) ∙ sym counted;
-          none-faster = first-at-the-goal-is-the-fastest q s′ ls′ ws′ (after .stands) n x lt here goal (λ i y hi st g. ⊎-elim (λ (l : i < n). absurd (from-the-first n (said .2) i y (omega arith) l st g)) (λ l. l) (cases-lt i n)) })
+        walk = places w;
+        drives-to-the-goal = subst (λ (a : Arrival Charge). Drives q (places w) a) (λ i. record { junction = goal i; time = x .arrival .time; load = x .arrival .load }) (legs-drive-their-places q (traced .drives));
+        of-so-many-roads = length-map w (λ l. l .place) ∙ sym counted;
+        none-faster = first-at-the-goal-is-the-fastest q s′ ls′ ws′ (after .stands) n x lt here goal (λ i y hi st g. ⊎-elim (λ (l : i < n). absurd (from-the-first n (said .2) i y (omega arith) l st g)) (λ l. l) (cases-lt i n));
+      })
 
 -- an advance of a search that stands, with a budget in range, is accepted
 pub advance-is-accepted : (q : Query Charge) (s s′ : Numbers) (ls ls′ : List (Label Charge)) (ws ws′ : List (Candidate Charge)) → StandsFor q s ls ws → (budget : ℕ) → 1 ≤ budget → budget ≤ 65535 → (f : Refusal) → AdvancePromise (q .rows) (q .kind) budget (tables ls ws ls′ ws′) s s′ (Err f) → ⊥
 advance-is-accepted q s s′ ls ls′ ws ws′ st budget lo hi f r =
     let same : (eqb (length (q .rows)) (s .junctions) && (eqb (length ls) (s .room) && eqb (length ws) (s .width))) ≡ true =
-          and-from _ _ (eq-eqb (length (q .rows)) (s .junctions) (sym (st .junctions))) (and-from _ _ (eq-eqb (length ls) (s .room) (sym (st .room))) (eq-eqb (length ws) (s .width) (sym (st .width)))) in
+    and-from _ _ (eq-eqb (length (q .rows)) (s .junctions) (sym (st .junctions))) (and-from _ _ (eq-eqb (length ls) (s .room) (sym (st .room))) (eq-eqb (length ws) (s .width) (sym (st .width)))) in
     let in-range : (eqb budget 0 || ltb 65535 budget) ≡ false = ap (λ t. t || ltb 65535 budget) (ne-eqb budget 0 (λ e. omega (arith, e))) ∙ le-ltb 65535 budget hi in
     let passed : advance-check s (length (q .rows)) (length ls) (length ws) budget ≡ None = simp (st .begun, same, in-range) in
     subst (λ o. Refuses o (Err f) (AllUnchanged (tables ls ws ls′ ws′) s s′) (Advanced (q .rows) (q .kind) budget (tables ls ws ls′ ws′) s s′)) passed r

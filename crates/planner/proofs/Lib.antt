@@ -1,1 +1,2 @@
 mod Concluding
+mod HeatedQuestion

@@ -72,9 +72,20 @@ fn answer_with<M: Map>(
     ensures { λ r. ⌜ AnsweredBy (begin-check (length (M·Map .rows (now (map .entry)))) (charges (now (kind .entry) .capacity) .admits (charge-of (question .charge))) (question .start) (question .goal) (question .deadline) (length (now (labels .entry))) (length (now (waiting .entry)))) (query (M·Map .rows (now (map .entry))) (charges (now (kind .entry) .capacity)) (question .start) (charge-of (question .charge)) (question .goal) (question .deadline)) (length (now (labels .entry))) r ⌝ }
 {
     let mut search = Search::new();
-    let load = Charge { level: question.charge };
+    let load = Charge {
+        level: question.charge,
+    };
     let budget = labels.len().min(65_535) as u32;
-    let begun = search.begin(map, kind, labels, waiting, question.start, load, question.goal, question.deadline);
+    let begun = search.begin(
+        map,
+        kind,
+        labels,
+        waiting,
+        question.start,
+        load,
+        question.goal,
+        question.deadline,
+    );
     if let Err(refusal) = begun {
         return Answer::Refused(refusal);
     }
@@ -88,10 +99,36 @@ fn answer_with<M: Map>(
     match progress.standing {
         Standing::Arrived(n) => {
             let arrival = labels[n as usize].arrival;
-            Answer::Route(arrival.time, arrival.load.level, roads_of(&search, labels, n))
+            Answer::Route(
+                arrival.time,
+                arrival.load.level,
+                roads_of(&search, labels, n),
+            )
         }
         Standing::Ended => Answer::NoRoute,
         Standing::Full => Answer::Full,
         Standing::Paused => Answer::Full,
     }
+}
+
+/// Answers a question on a map, with the lent tables. Refuses the heater's power, then the capacity,
+/// then as a search's begin does.
+pub fn answer_question<M: Map + Drop>(
+    map: M,
+    question: Question,
+    labels: &mut [Label<Charge>],
+    waiting: &mut [Candidate<Charge>],
+) -> Answer
+    ensures refused_by_the_first_failing_check_else_so { λ r. ⌜ AnsweredBy (question-check (M·Map .rows map) question (length (now (labels .entry))) (length (now (waiting .entry)))) (query-of (M·Map .rows map) question) (length (now (labels .entry))) r ⌝ }
+{
+    let power = match Power::new(question.heater) {
+        Ok(power) => power,
+        Err(refusal) => return Answer::Refused(refusal),
+    };
+    let kind = match ChargeKind::new(question.capacity) {
+        Ok(kind) => kind,
+        Err(refusal) => return Answer::Refused(refusal),
+    };
+    let heated = Heater::over(map, power);
+    answer_with(&heated, &kind, question, labels, waiting)
 }

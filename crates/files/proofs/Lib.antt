@@ -1,0 +1,11 @@
+pub mod Digits
+pub mod Pieces
+pub mod FieldsTaken
+pub mod NamesTaken
+pub mod RowFilled
+pub mod FirstFault
+pub mod LinesTaken
+pub mod RoadInRange
+pub mod RoadsLeaving
+pub mod TablesFilled
+pub mod RoadFileMapped

@@ -1,0 +1,13 @@
+pub mod Faults
+pub mod Lines
+pub mod LinesLeft
+pub mod Fields
+pub mod FieldsLeft
+pub mod Values
+pub mod Names
+pub mod Roads
+pub mod Tables
+pub mod Files
+pub mod RoadFile
+pub mod Queries
+pub mod RoadLaw
