@@ -19,11 +19,12 @@ use Rattle.loads.specs.Charge.{charge}
 use Rattle.front.specs.declared.arrival.Arrival.{Arrival}
 use Rattle.front.specs.declared.label.Label.{Label}
 use Rattle.front.specs.declared.leg.Leg.{Leg}
-use Rattle.front.specs.Walks.{Query, Drives, departure, empty-walk}
-use Rattle.front.specs.Front.{FrontBegins}
+use Rattle.front.specs.Walks.{Query, Valid, Drives, departure, empty-walk}
+use Rattle.front.specs.Front.{FrontBegins, Unbeaten}
 use Rattle.front.specs.Legs.{Stored, places}
 use Rattle.front.specs.Labels.{arrivals, TracedWalk}
 use Rattle.front.specs.Invariant.{Invariant}
+use Rattle.front.proofs.Walks.{departure-is-unbeaten}
 use Rattle.front.proofs.Legs.{legs-drive-their-places}
 use Rattle.front.proofs.ListedLabels.{junction-without-label-is-not-reached}
 use Rattle.promises.specs.declared.candidate.Candidate.{Candidate}
@@ -36,7 +37,7 @@ use Rattle.promises.specs.Refuses.{Refuses}
 use Rattle.promises.specs.Begin.{begin-check, Begun}
 use Rattle.promises.specs.Advance.{advance-check, Advanced, AdvancedFor, AdvancePromise, StandingSays, NoneAt, SomeUnbeatenUnlisted}
 use Rattle.promises.proofs.Records.{take-stored, below-take}
-use Rattle.promises.proofs.ListedLabels.{label-0-is-the-departure, first-at-the-goal-is-the-fastest}
+use Rattle.promises.proofs.ListedLabels.{listed-is-unbeaten, label-0-is-the-departure, first-at-the-goal-is-the-fastest}
 use Rattle.planner.specs.declared.answer.Answer.the-variants.{Route, NoRoute, Refused}
 use Rattle.planner.specs.declared.answer.Answer.the-variants as answers
 use Rattle.planner.specs.Answer.{AnsweredBy, MayConclude, FastestDrive, FrontHasMore, NoDrive, arrival-with}
@@ -55,10 +56,11 @@ pub concluded : (check : Option Refusal) (q : Query Charge) (n : ℕ) (answer : 
 concluded check q n answer e x = subst (λ o. AnsweredBy o q n answer) (sym e) x
 
 -- the start is the goal
-pub already-there : (q : Query Charge) (level : ℕ) → q .start ≡ q .goal → q .load ≡ charge level → FastestDrive q 0 level 0
-already-there q level there load = record {
+pub already-there : (q : Query Charge) (level : ℕ) → Valid q → q .start ≡ q .goal → q .load ≡ charge level → FastestDrive q 0 level 0
+already-there q level valid there load = record {
   walk = [];
   drives-to-the-goal = subst (λ (a : Arrival Charge). Drives q [] a) (λ i. record { junction = there i; time = 0; load = load i }) empty-walk;
+  unbeaten = subst (λ (a : Arrival Charge). Unbeaten q a) (λ i. record { junction = there i; time = 0; load = load i }) (departure-is-unbeaten q valid);
   of-so-many-roads = refl;
   none-faster = λ a r g. omega arith;
 }
@@ -114,6 +116,7 @@ module _ (q : Query Charge) (s s′ : Numbers) (ls ls′ : List (Label Charge)) 
       subst (λ (y : Label Charge). FastestDrive q (y .arrival .time) (y .arrival .load .level) count) (sym (here .1 d)) (record {
         walk = places w;
         drives-to-the-goal = subst (λ (a : Arrival Charge). Drives q (places w) a) (λ i. record { junction = goal i; time = x .arrival .time; load = x .arrival .load }) (legs-drive-their-places q (traced .drives));
+        unbeaten = subst (λ (a : Arrival Charge). Unbeaten q a) (λ i. record { junction = goal i; time = x .arrival .time; load = x .arrival .load }) (listed-is-unbeaten q s′ ls′ ws′ (after .stands) n x lt here);
         of-so-many-roads = length-map w (λ l. l .place) ∙ sym counted;
         none-faster = first-at-the-goal-is-the-fastest q s′ ls′ ws′ (after .stands) n x lt here goal (λ i y hi st g. ⊎-elim (λ (l : i < n). absurd (from-the-first n (said .2) i y (omega arith) l st g)) (λ l. l) (cases-lt i n));
       })

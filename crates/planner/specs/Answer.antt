@@ -16,7 +16,7 @@ use Rattle.loads.specs.Charge.{charge, charges}
 use Rattle.front.specs.declared.arrival.Arrival.{Arrival}
 use Rattle.front.specs.declared.label.Label.{Label}
 use Rattle.front.specs.Walks.{Query, Walk, Drives, Reached}
-use Rattle.front.specs.Front.{FrontBegins}
+use Rattle.front.specs.Front.{FrontBegins, Unbeaten}
 use Rattle.front.specs.Labels.{arrivals}
 use Rattle.promises.specs.Begin.{query, begin-check}
 use Rattle.promises.specs.Advance.{NoneAt, SomeUnbeatenUnlisted}
@@ -39,12 +39,13 @@ question-check rows a labels waiting =
 abbrev pub arrival-with : ℕ → ℕ → ℕ → Arrival Charge
 arrival-with junction seconds level = record { junction = junction; time = seconds; load = charge level }
 
--- a drivable walk of so many roads reaches the goal in this time with this charge, and none is faster
+-- a drivable walk of so many roads reaches the goal in this time with this charge; none is faster, and none as fast keeps more charge
 pub record FastestDrive (q : Query Charge) (seconds level roads : ℕ) : Type 0 where
   pub walk : Walk
   pub drives-to-the-goal : Drives q walk (arrival-with (q .goal) seconds level)
   pub of-so-many-roads : length walk ≡ roads
   pub none-faster : NoneFaster q seconds
+  pub unbeaten : Unbeaten q (arrival-with (q .goal) seconds level)
 
 -- no drivable walk reaches the goal within the deadline
 abbrev pub NoDrive : Query Charge → Type 0

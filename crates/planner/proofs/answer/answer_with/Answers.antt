@@ -28,7 +28,7 @@ returns-then-question g c =
     let t = tables (c .args .labels .now) (c .args .waiting .now) ls ws in
     let check = begin-check (length (q .rows)) (q .kind .admits (q .load)) (q .start) (q .goal) (q .deadline) (length (c .args .labels .now)) (length (c .args .waiting .now)) in
     let b = accepted check (c .in-rest .field-0) (AllUnchanged t s₀ s) (Begun q t s) (c .in-rest .ensures tt .promised) in
-    concluded check q (length (c .args .labels .now)) (Route 0 (c .args .question .charge) 0) (b .0) (already-there q (c .args .question .charge) (c .if-question .taken) refl)
+    concluded check q (length (c .args .labels .now)) (Route 0 (c .args .question .charge) 0) (b .0) (already-there q (c .args .question .charge) (b .1 .stands .valid) (c .if-question .taken) refl)
 
 pub returns-in-Err-advance : need.returns-in-Err-advance
 returns-in-Err-advance g c =
