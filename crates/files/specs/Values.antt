@@ -22,9 +22,13 @@ abbrev pub numeral : ℕ → List ℕ → ℕ
 numeral n [] = n
 numeral n (d ∷ ds) = numeral (n * 10 + (d - 48)) ds
 
+-- one to six bytes, the first no zero that others follow
+abbrev pub value-shaped : List ℕ → Bool
+value-shaped ds = ltb 0 (length ds) && leb (length ds) 6 && not (ltb 1 (length ds) && eqb (getD ds 0 0) 48)
+
 -- one to six digits without a leading zero, except 0 itself
 abbrev pub is-value : List ℕ → Bool
-is-value ds = ltb 0 (length ds) && leb (length ds) 6 && not (ltb 1 (length ds) && eqb (getD ds 0 0) 48) && all-digits ds
+is-value ds = value-shaped ds && all-digits ds
 
 abbrev pub value : List ℕ → Checked ℕ
 value ds = cond (is-value ds) (Ok (numeral 0 ds)) (Err NotAValue)

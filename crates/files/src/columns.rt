@@ -1,7 +1,7 @@
 //! The names line and the value lines, read alike for every kind of file.
 ghost use mathlib.Core.Path.{_≡_};
 ghost use mathlib.Core.List.{List};
-ghost use Prim.Native.Nat.{ℕ};
+ghost use Prim.Native.Nat.{ℕ, _+_, _<_};
 ghost use lib.Dec.{eqb};
 ghost use Rattle.std.specs.declared.option.Option.{Option};
 ghost use Rattle.std.specs.shelf.Text.{sameBytes};
@@ -96,13 +96,17 @@ pub fn read_names<C: Column, const N: usize>(all: [C; N], line: &[u8]) -> Result
     Ok(columns)
 }
 
-// A value's refusal with the field that it stands in.
-fn in_field<X: Drop>(field: usize, read: Result<X, Refusal>) -> Result<X, ValueFault>
-    ensures { λ r. ⌜ r ≡ in-field field read ⌝ }
+// A value's refusal with the number of its field, which so many others stand before.
+fn in_field<X: Drop>(before: usize, read: Result<X, Refusal>) -> Result<X, ValueFault>
+    requires { ⌜ before < 18446744073709551615 ⌝ }
+    ensures { λ r. ⌜ r ≡ in-field (before + 1) read ⌝ }
 {
     match read {
         Ok(x) => Ok(x),
-        Err(refusal) => Err(ValueFault { field, refusal }),
+        Err(refusal) => Err(ValueFault {
+            field: before + 1,
+            refusal,
+        }),
     }
 }
 
@@ -122,7 +126,7 @@ pub fn read_row<C: Column>(
     let mut row = blank;
     for k in 0..columns.len() {
         match fields.next_field() {
-            Some(field) => row = in_field(k + 1, columns[k].fill(row, room, field))?,
+            Some(field) => row = in_field(k, columns[k].fill(row, room, field))?,
             None => {}
         }
     }

@@ -39,7 +39,7 @@ pub impl From<ValueFault> for LineFault as LineFaultFromValueFault {
 }
 
 /// A line's fault, with the file and the line, from 1, that it is in.
-#[derive(Clone, Copy, PartialEq, Eq, Debug)]
+#[derive(Clone, Copy)]
 pub struct PlacedFault {
     pub file: FileName,
     pub line: usize,

@@ -21,7 +21,7 @@ use refusals::refusal::Refusal;
 use std::alloc::Global;
 
 /// The columns of a query file.
-#[derive(Clone, Copy, PartialEq, Eq, Debug)]
+#[derive(Clone, Copy)]
 pub enum QueryColumn {
     Start,
     Goal,

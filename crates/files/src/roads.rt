@@ -8,7 +8,7 @@ use crate::values::read_value;
 use refusals::refusal::Refusal;
 
 /// The columns of a road file.
-#[derive(Clone, Copy, PartialEq, Eq, Debug)]
+#[derive(Clone, Copy)]
 pub enum RoadColumn {
     From,
     To,
@@ -17,7 +17,7 @@ pub enum RoadColumn {
 }
 
 /// What a road line holds.
-#[derive(Clone, Copy, PartialEq, Eq, Debug)]
+#[derive(Clone, Copy)]
 pub struct RoadLine {
     pub from: u32,
     pub to: u32,
@@ -28,31 +28,31 @@ pub struct RoadLine {
 fn read_junction(field: &[u8], room: u32) -> Result<u32, Refusal>
     ensures { λ r. ⌜ r ≡ junction room (now (field .entry)) ⌝ }
 {
-    let v = read_value(field)?;
-    if v >= room {
+    let junction = read_value(field)?;
+    if junction >= room {
         return Err(Refusal::JunctionBeyondRoom);
     }
-    Ok(v)
+    Ok(junction)
 }
 
 fn read_seconds(field: &[u8]) -> Result<u32, Refusal>
     ensures { λ r. ⌜ r ≡ seconds (now (field .entry)) ⌝ }
 {
-    let v = read_value(field)?;
-    if v < 1 || v > 7_200 {
+    let seconds = read_value(field)?;
+    if seconds < 1 || seconds > 7_200 {
         return Err(Refusal::RoadTimeOutOfRange);
     }
-    Ok(v)
+    Ok(seconds)
 }
 
 fn read_watt_hours(field: &[u8]) -> Result<i32, Refusal>
     ensures { λ r. ⌜ r ≡ watt-hours (now (field .entry)) ⌝ }
 {
-    let v = read_signed_value(field)?;
-    if v < -100_000 || v > 100_000 {
+    let draw = read_signed_value(field)?;
+    if draw < -100_000 || draw > 100_000 {
         return Err(Refusal::RoadDrawOutOfRange);
     }
-    Ok(v)
+    Ok(draw)
 }
 
 pub impl Column for RoadColumn as RoadColumnColumn {

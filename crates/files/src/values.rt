@@ -2,18 +2,22 @@
 ghost use mathlib.Core.Path.{_≡_};
 ghost use Prim.Native.Nat.{_<_};
 ghost use Rattle.std.specs.Vec.{made};
-ghost use Rattle.files.specs.Values.{value, has-minus, signed-value};
+ghost use Rattle.files.specs.Values.{value, value-shaped, has-minus, signed-value};
 use refusals::refusal::Refusal;
+
+// One to six bytes, the first no zero that others follow.
+fn is_value_shaped(field: &[u8]) -> bool
+    ensures { λ r. ⌜ r ≡ value-shaped (now (field .entry)) ⌝ }
+{
+    !field.is_empty() && field.len() <= 6 && !(field.len() > 1 && field[0] == b'0')
+}
 
 /// One to six digits without a leading zero, except 0 itself.
 pub fn read_value(field: &[u8]) -> Result<u32, Refusal>
     ensures value_or_refusal { λ r. ⌜ r ≡ value (now (field .entry)) ⌝ }
     ensures below_a_million { λ r. ⌜ made r (λ v. v < 1000000) ⌝ }
 {
-    if field.is_empty() || field.len() > 6 {
-        return Err(Refusal::NotAValue);
-    }
-    if field.len() > 1 && field[0] == b'0' {
+    if !is_value_shaped(field) {
         return Err(Refusal::NotAValue);
     }
     let mut n = 0u32;

@@ -3,8 +3,10 @@
 use files::fault::FileFault;
 use files::fault::FileName;
 use files::fault::ReadFault;
+use files::road_file::read_roads;
 use office::answer_line::AnswerLine;
 use office::answer_line::AnswerLineDisplay;
+use office::answers::JUNCTIONS;
 use office::answers::answer_files;
 use planner::answer::Answer;
 use refusals::refusal::Refusal;
@@ -44,6 +46,16 @@ fn read_file(rt: &LibcRuntime, file: FileName, name: &str) -> Result<Vec<u8>, Fi
     }
 }
 
+// The fault to tell where the queries cannot be read: the roads' own, if there is one.
+fn fault_of_both(
+    rt: &LibcRuntime,
+    roads: &[u8],
+    queries: FileFault,
+) -> Result<Vec<Answer>, ReadFault> {
+    let _ = read_roads(rt.alloc(), roads, JUNCTIONS)?;
+    Err(ReadFault::InFile(queries))
+}
+
 fn print_fault(rt: &LibcRuntime, fault: FileFault) -> io::Result<()> {
     let name = match fault.file {
         FileName::Roads => "roads.txt",
@@ -76,11 +88,11 @@ fn main(rt: LibcRuntime) -> Result<(), AnyError> {
         Ok(bytes) => bytes,
         Err(fault) => return Ok(print_fault(&rt, fault)?),
     };
-    let queries = match read_file(&rt, FileName::Queries, "queries.txt") {
-        Ok(bytes) => bytes,
-        Err(fault) => return Ok(print_fault(&rt, fault)?),
+    let answered = match read_file(&rt, FileName::Queries, "queries.txt") {
+        Ok(queries) => answer_files(rt.alloc(), &roads, &queries),
+        Err(fault) => fault_of_both(&rt, &roads, fault),
     };
-    match answer_files(rt.alloc(), &roads, &queries) {
+    match answered {
         Ok(answers) => Ok(print_answers(&rt, &answers)?),
         Err(ReadFault::InFile(fault)) => Ok(print_fault(&rt, fault)?),
         Err(ReadFault::NoMemory) => Err("out of memory".into()),

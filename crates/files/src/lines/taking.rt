@@ -2,6 +2,8 @@
 ghost use mathlib.Core.Path.{_≡_};
 ghost use Prim.Native.Nat.{_≤_, _+_};
 ghost use lib.ListN.{length, drop};
+ghost use Rattle.refusals.specs.declared.refusal.Refusal.the-variants.{LineNotEnded};
+ghost use Rattle.files.specs.declared.fault.LineFault.the-variants.{WholeLine};
 ghost use Rattle.files.specs.Faults.{placed};
 ghost use Rattle.files.specs.Lines.{run, pieces};
 ghost use Rattle.files.specs.LinesLeft.{lines-left, told, next-line, after-line, count-after};
@@ -52,6 +54,18 @@ impl<'a> LineReader<'a> {
         })
     }
 
+    // The fault of a last line that no byte 10 ends.
+    fn not_ended(&self) -> FileFault
+        ensures { λ r. ⌜ r ≡ placed (now (self .entry) .file) (now (self .entry) .taken + 1) (WholeLine LineNotEnded) ⌝ }
+    {
+        let fault = LineFault::WholeLine(Refusal::LineNotEnded);
+        FileFault::from(PlacedFault {
+            file: self.file,
+            line: self.taken + 1,
+            fault,
+        })
+    }
+
     /// The next line without its byte 10, or None at the end of the file. Refuses a line that is not ended.
     pub fn next_line(&mut self) -> Result<Option<&'a [u8]>, FileFault>
         ensures line_or_fault { λ r. ⌜ told r ≡ next-line (now (self .entry) .file) (now (self .entry) .taken) (lines-left (now (self .entry))) ⌝ }
@@ -64,13 +78,7 @@ impl<'a> LineReader<'a> {
         }
         let end = until(self.text, self.at, b'\n');
         if end == self.text.len() {
-            let line = self.taken + 1;
-            let fault = LineFault::WholeLine(Refusal::LineNotEnded);
-            return Err(FileFault::from(PlacedFault {
-                file: self.file,
-                line,
-                fault,
-            }));
+            return Err(self.not_ended());
         }
         let line = &self.text[self.at..end];
         self.at = end + 1;

@@ -1,14 +1,14 @@
 use mathlib.Core.Path.{_≡_, sym, ap, _∙_}
-use mathlib.Core.Bool.{false, _&&_}
+use mathlib.Core.Bool.{true, false, cond, _&&_}
 use Prim.Native.Nat.{_+_, _*_, _^_, _≤_}
 use lib.Dec.{leb}
-use lib.ListN.{getD, drop}
+use lib.ListN.{length, getD, drop}
 use native.Mathlib.Omega.{arith}
 use native.Mathlib.Nat.{pow-succ', pow-le-pow-right}
 use native.Mathlib.Numerals.{add-one}
 use Rattle.std.proofs.shelf.Ways.{tells}
 use Rattle.std.proofs.shelf.Lists.{at-drop-all}
-use Rattle.files.specs.Values.{numeral, all-digits}
+use Rattle.files.specs.Values.{numeral, all-digits, value-shaped}
 use Rattle.files.proofs.Digits.{digits-keep, digits-stop, numeral-more}
 use Rattle.files.proofs.values.read_value.Needs as need
 use Rattle.files.proofs.values.read_value.Needs.{then-d-lt48·by·then-d-lt48, then-d-lt48·by·else-d-lt48·then-d-gt57}
@@ -31,6 +31,8 @@ loop-d-again c = (
 pub returns : need.returns
 returns c =
     let end = c .loop-d-test .left in
+    let shaped : true ≡ value-shaped (c .args .field .now) = c .if-not-is-value-shaped .ensures tt in
+    let short : length (c .args .field .now) ≤ 6 = grind (arith, tells) in
     let num = c .loop-d .inv .0 ∙ at-drop-all (numeral (c .loop-d .n)) _ _ end in
     let all = c .loop-d .inv .1 ∙ at-drop-all all-digits _ _ end in
     let most : 10 ^ c .loop-d .d-index ≤ 10 ^ 6 = pow-le-pow-right {n = 10} (omega arith) {i = c .loop-d .d-index} {j = 6} (omega arith) in

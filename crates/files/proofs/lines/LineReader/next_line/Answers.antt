@@ -18,7 +18,7 @@ pub returns-then-end-self : need.returns-then-end-self
 returns-then-end-self c =
     let long = length-drop (c .args .self .now .at) (c .args .self .now .text .now) in
     let e = not-ended (c .args .self .now .file) (c .args .self .now .taken) (drop (c .args .self .now .at) (c .args .self .now .text .now)) (omega arith) (omega arith) in
-    record { line-or-fault = ap Err (c .from .ensures) ∙ e .answer; later-lines-left = e .after; line-counted = e .count; file-kept = refl }
+    record { line-or-fault = ap Err (c .not-ended .ensures) ∙ e .answer; later-lines-left = e .after; line-counted = e .count; file-kept = refl }
 
 pub returns : need.returns
 returns c =
