@@ -1,10 +1,12 @@
-//! `drive [--estate W H T D G] [--shut J K].. START CHARGE CAPACITY WATTS PLACE..`: tries one walk on the
-//! worked map or on an estate, and tells where the van is and what it carries after each road.
+//! `drive [--estate W H T D G] [--shut J K].. START CHARGE CAPACITY WATTS PLACE..`: tries one walk on an
+//! estate, or on the map of roads.txt, or on the worked map where there is no such file, and tells where the van is and what it carries after each road.
 mod attempt;
 mod request;
 mod worked;
 
+use attempt::NotDriven;
 use attempt::attempt as try_request;
+use inputs::text_file::print_fault;
 use loads::charge::Charge;
 use refusals::refusal::RefusalDisplay;
 use request::BadRequest;
@@ -14,7 +16,6 @@ use std::env;
 use std::error::AnyError;
 use std::io;
 use walks::trial::Ending;
-use walks::trial::NoTrial;
 use walks::trial::Trial;
 
 fn print_legs(rt: &LibcRuntime, trial: &Trial<Charge>) -> io::Result<()> {
@@ -70,17 +71,21 @@ fn complain(rt: &LibcRuntime, bad: BadRequest) -> io::Result<()> {
 }
 
 fn run(rt: &LibcRuntime, request: &Request) -> Result<(), AnyError> {
-    match try_request(rt.alloc(), request) {
+    match try_request(rt, request) {
         Ok(trial) => {
             print_legs(rt, &trial)?;
             print_ending(rt, request.charge, &trial)?;
             Ok(())
         }
-        Err(NoTrial::Refused(refusal)) => {
+        Err(NotDriven::Refused(refusal)) => {
             println!(rt, "refused {}: {refusal}", refusal.number())?;
             Err("refused".into())
         }
-        Err(NoTrial::OutOfMemory) => Err("out of memory".into()),
+        Err(NotDriven::InFile(fault)) => {
+            print_fault(rt, fault)?;
+            Err("a fault in a file".into())
+        }
+        Err(NotDriven::OutOfMemory) => Err("out of memory".into()),
     }
 }
 
