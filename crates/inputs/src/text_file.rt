@@ -13,8 +13,8 @@ use std::io::Read;
 /// The most bytes that a file may have.
 const MOST: u64 = 32_768;
 
-/// What a file is called in the working directory.
-pub fn name_of(file: FileName) -> &'static str {
+// What a file is called in the working directory.
+fn name_of(file: FileName) -> &'static str {
     match file {
         FileName::Roads => "roads.txt",
         FileName::Queries => "queries.txt",
