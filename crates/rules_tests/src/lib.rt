@@ -4,4 +4,6 @@ mod bad_input;
 #[cfg(test)]
 mod piles;
 #[cfg(test)]
+mod profiles;
+#[cfg(test)]
 mod worked_walks;
