@@ -1,4 +1,6 @@
 //! Reads a road file of exactly 32,768 bytes, which is accepted, and a query file of one byte more.
+#![tactic(auto)]
+
 use files::fault::FileName;
 use inputs::text_file::{print_fault, read_file};
 use std::io;

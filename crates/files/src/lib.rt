@@ -1,4 +1,6 @@
 //! Road files and query files: lines that end with byte 10, fields that single spaces part.
+#![tactic(auto)]
+
 pub mod columns;
 pub mod fault;
 pub mod fields;

@@ -1,4 +1,6 @@
 //! Road files and query files tried out: every fault in its place, and what good files give.
+#![tactic(auto)]
+
 #[cfg(test)]
 mod query_files;
 #[cfg(test)]

@@ -1,4 +1,6 @@
 //! Walks, arrivals and the front of a query, and why a search that always lists its least candidate finds the front.
+#![tactic(auto)]
+
 ghost use Rattle.front.specs.Theorems.{Theorems};
 
 pub mod arrival;

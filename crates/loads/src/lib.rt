@@ -1,4 +1,6 @@
 //! Load kinds: what a van carries along a drive, and what a road makes of it.
+#![tactic(auto)]
+
 ghost use Rattle.std.specs.Prelude.{◌≡◌};
 ghost use Rattle.loads.specs.Meaning.{Meaning};
 ghost use Rattle.loads.specs.Laws.{Laws};

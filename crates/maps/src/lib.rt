@@ -1,4 +1,6 @@
 //! Road maps: junctions, each with twelve places that are empty or hold one road.
+#![tactic(auto)]
+
 ghost use Rattle.std.specs.Prelude.{◌≡◌, length};
 ghost use Rattle.maps.specs.Rows.{Rows, Sound, answered};
 

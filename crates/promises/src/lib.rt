@@ -1,4 +1,6 @@
 //! What the calls of a search promise, and the law that follows for whole runs of calls.
+#![tactic(auto)]
+
 ghost use Rattle.promises.specs.ChartLaw.{ProfileLaw};
 ghost use Rattle.promises.specs.Law.{Law};
 

@@ -1,4 +1,5 @@
 //! One waiting queue for any entry: a heap over a slice that the caller lends.
+#![tactic(auto)]
 
 pub mod entry;
 pub mod full;

@@ -1,5 +1,7 @@
 //! `route`: reads roads.txt and queries.txt in the working directory, and writes one answer a line, or
 //! the first fault of a file.
+#![tactic(auto)]
+
 use anyhow::anyhow;
 use files::fault::{FileFault, FileName, ReadFault};
 use files::road_file::read_roads;

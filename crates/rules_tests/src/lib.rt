@@ -1,4 +1,6 @@
 //! Tests of the rules on examples: maps, loads and walks.
+#![tactic(auto)]
+
 #[cfg(test)]
 mod bad_input;
 #[cfg(test)]

@@ -1,4 +1,6 @@
 //! Tests of the search on small maps: fronts, walks, charts, and every refusal.
+#![tactic(auto)]
+
 #[cfg(test)]
 mod charges;
 #[cfg(test)]

@@ -1,2 +1,4 @@
 //! Walks driven road by road: where a van is, what it carries, and where it can go no further.
+#![tactic(auto)]
+
 pub mod trial;
