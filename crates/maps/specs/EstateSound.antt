@@ -20,7 +20,7 @@ width_behind w v p = omega (arith, mul-le 1 w (v / w) w p (le_refl w), div-add-m
 
 module _ (w h v : ℕ) (some : 1 ≤ w) (in_it : v < w * h) where
   next_row : v / w + 1 < h → v + w < w * h
-  next_row p = omega (arith, mul-add-lt (v / w + 1) w (v % w) h p (mod_below v w some), div-add-mod' v w, native.Mathlib.Nat.add_mul (v / w) 1 w)
+  next_row p = omega (arith, mul-add-lt (v / w + 1) w (v % w) h p (mod_below v w some), div-add-mod' v w, native.Mathlib.Nat.add-mul (v / w) 1 w)
 
   next_column : v % w + 1 < w → v + 1 < w * h
   next_column p = omega (arith, mul-add-lt (v / w) w (v % w + 1) h (div_below v w h some (omega (arith, native.Mathlib.Nat.mul_comm w h))) p, div-add-mod' v w)

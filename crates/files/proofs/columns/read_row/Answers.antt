@@ -12,7 +12,7 @@ use Rattle.files.proofs.columns.read_row.Goals.{in-Some+in_ok-row, in-None}
 
 pub returns-in_err-row : goal.returns-in_err-row
 returns-in_err-row g c =
-    let p = err_from_is_err_and c.from-residual.result c.from-residual.ensures.1 in
+    let p = err_from_is_err_and c.from_residual.result c.from_residual.ensures.1 in
     let n = c.loop-k.k + 1 in
     let fill = g.C.Column.filled c.args.room in
     let go = fields_filled fill (n + 1) (drop n c.args.columns.now) (rest (fields_left c.loop-k.fields)) in

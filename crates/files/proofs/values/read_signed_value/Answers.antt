@@ -22,13 +22,13 @@ plain f r m e =
 
 pub returns-in_err-v : goal.returns-in_err-v
 returns-in_err-v c =
-    let p = err_from_is_err_and c.from-residual.result c.from-residual.ensures.1 in
+    let p = err_from_is_err_and c.from_residual.result c.from_residual.ensures.1 in
     rw (p.1, p.2) (plain c.args.field.now _ c.if-not-has-minus.ensures c.in_err-v.ensures.value_or_refusal)
 
 pub returns-in_err-v-2 : goal.returns-in_err-v-2
 returns-in_err-v-2 c =
     let e = c.in_err-v-2.ensures.value_or_refusal in
-    let p = err_from_is_err_and c.from-residual-in_err-v-2.result c.from-residual-in_err-v-2.ensures.1 in
+    let p = err_from_is_err_and c.from_residual-in_err-v-2.result c.from_residual-in_err-v-2.ensures.1 in
     rw (p.1, p.2) (behind c.args.field.now _ c.if-not-has-minus.ensures e)
 
 pub returns-then-v-eq0 : goal.returns-then-v-eq0

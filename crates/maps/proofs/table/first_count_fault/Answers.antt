@@ -8,7 +8,7 @@ pub loop-count-init : goal.loop-count-init
 loop-count-init c = first_failure_none (count_fault c.args.counts.now)
 
 pub returns-then-count-gt12 : goal.returns-then-count-gt12
-returns-then-count-gt12 c = first_failure_here (count_fault c.args.counts.now) _ c.loop-count.count_index _ (omega arith) c.loop-count.invariant (grind (arith, nat_tests))
+returns-then-count-gt12 c = first_failure_here (count_fault c.args.counts.now) _ c.loop-count.count-index _ (omega arith) c.loop-count.invariant (grind (arith, nat_tests))
 
 pub loop-count-preserved : goal.loop-count-preserved
 loop-count-preserved c = first_failure_more (count_fault c.args.counts.now) _ c.loop-count.invariant (grind (arith, nat_tests))

@@ -7,10 +7,10 @@ use Rattle.std.proofs.lemmas.Result.{IfOk-from_err}
 use Rattle.office.proofs.answers.answer_all.Goals as goal
 
 pub returns-in_err-waiting : goal.returns-in_err-waiting
-returns-in_err-waiting g c = IfOk-from_err c.from-residual-in_err-waiting.result _ c.from-residual-in_err-waiting.ensures.0
+returns-in_err-waiting g c = IfOk-from_err c.from_residual-in_err-waiting.result _ c.from_residual-in_err-waiting.ensures.0
 
 pub returns-in_err-push : goal.returns-in_err-push
-returns-in_err-push g c = IfOk-from_err c.from-residual-in_err-push.result _ c.from-residual-in_err-push.ensures.0
+returns-in_err-push g c = IfOk-from_err c.from_residual-in_err-push.result _ c.from_residual-in_err-push.ensures.0
 
 pub loop-query-preserved : goal.loop-query-preserved
 loop-query-preserved g c = (

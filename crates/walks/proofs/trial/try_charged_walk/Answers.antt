@@ -5,13 +5,13 @@ use Rattle.walks.proofs.trial.try_charged_walk.Goals as goal
 
 pub returns-in_err-power : goal.returns-in_err-power
 returns-in_err-power g c =
-    let p = err_from_is_err_and c.from-residual.result c.from-residual.ensures.1 in
+    let p = err_from_is_err_and c.from_residual.result c.from_residual.ensures.1 in
     let h = c.in_err-power.ensures.accepted_exactly_up_to_6000_watts in
     record { legs_of_the_charge_over_the_heated_map = rw (p.1, p.2, h.1) (sym (power_refused (length (g.M.Map.rows c.args.map)) c.args.watts c.args.capacity c.args.start c.args.level c.args.places.now h.0)) }
 
 pub returns-in_err-kind : goal.returns-in_err-kind
 returns-in_err-kind g c =
-    let p = err_from_is_err_and c.from-residual-in_err-kind.result c.from-residual-in_err-kind.ensures.1 in
+    let p = err_from_is_err_and c.from_residual-in_err-kind.result c.from_residual-in_err-kind.ensures.1 in
     let w = c.in_ok-power.ensures.accepted_exactly_up_to_6000_watts in
     let h = c.in_err-kind.ensures.accepted_exactly_from_1_to_100000 in
     record { legs_of_the_charge_over_the_heated_map = rw (p.1, p.2, h.0) (sym (capacity_refused (length (g.M.Map.rows c.args.map)) c.args.watts c.args.capacity c.args.start c.args.level c.args.places.now w.0 h.1)) }

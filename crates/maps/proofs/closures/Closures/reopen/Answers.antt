@@ -6,7 +6,7 @@ use Rattle.maps.proofs.closures.Closures.reopen.Goals as goal
 pub invariant_of-self : goal.invariant_of-self
 invariant_of-self g c =
     let size : length c.args.self.now.entries ≡ 64 = search rules in
-    (none_twice_after_reopen c.args.self.now.entries c.args.junction c.args.place c.in-Some.i c.release.new.self size c.release.ensures c.args.self.now.once (sym c.find.ensures.0 ∙ c.in-Some.is), tt)
+    record { once = none_twice_after_reopen c.args.self.now.entries c.args.junction c.args.place c.in-Some.i c.release.new.self size c.release.ensures c.args.self.now.once (sym c.find.ensures.0 ∙ c.in-Some.is) }
 
 pub returns-in-Some : goal.returns-in-Some
 returns-in-Some g c =

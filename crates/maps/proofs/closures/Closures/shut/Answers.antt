@@ -10,7 +10,7 @@ pub invariant_of-self : goal.invariant_of-self
 invariant_of-self g c =
     let size = c.vacant.ensures.1.1 in
     let nowhere = not_shut c.args.self.now.entries c.args.junction c.args.place c.find.result c.find.ensures.0 c.if-is_some.ensures in
-    (none_twice_after_shut c.args.self.now.entries c.args.junction c.args.place c.in-Some.i c.take.new.self size c.take.ensures c.args.self.now.once (sym c.vacant.ensures.0 ∙ c.in-Some.is) nowhere, tt)
+    record { once = none_twice_after_shut c.args.self.now.entries c.args.junction c.args.place c.in-Some.i c.take.new.self size c.take.ensures c.args.self.now.once (sym c.vacant.ensures.0 ∙ c.in-Some.is) nowhere }
 
 pub returns-in-None : goal.returns-in-None
 returns-in-None g c =

@@ -7,7 +7,7 @@ use Rattle.maps.proofs.heater.HeaterMap.place.Goals as goal
 
 pub returns-in_err-place : goal.returns-in_err-place
 returns-in_err-place g c =
-    let p = err_from_is_err_and c.from-residual.result c.from-residual.ensures.1 in
+    let p = err_from_is_err_and c.from_residual.result c.from_residual.ensures.1 in
     rw (p.1, p.2) (layer_refused _ _ _ _ _ c.in_err-place.ensures)
 
 pub heat-requires : goal.heat-requires

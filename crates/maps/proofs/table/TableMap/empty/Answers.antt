@@ -4,4 +4,4 @@ use Rattle.maps.proofs.table.TableMap.empty.Goals as goal
 
 pub invariant_of-result : goal.invariant_of-result
 unfolding first_failure
-invariant_of-result c = (refl, tt)
+invariant_of-result c = record { checked = refl }

@@ -6,7 +6,7 @@ use Rattle.maps.proofs.closures.calls.ClosuresMap.place.Goals as goal
 
 pub returns-in_err-road : goal.returns-in_err-road
 returns-in_err-road g c =
-    let p = err_from_is_err_and c.from-residual.result c.from-residual.ensures.1 in
+    let p = err_from_is_err_and c.from_residual.result c.from_residual.ensures.1 in
     rw (p.1, p.2) (layer_refused _ _ _ _ _ c.in_err-road.ensures)
 
 pub returns-then-is_some : goal.returns-then-is_some
