@@ -8,7 +8,7 @@ pub loop-place-init : goal.loop-place-init
 loop-place-init c = first_failure_none (place_fault c.args.places.now)
 
 pub returns-then-place-gt11 : goal.returns-then-place-gt11
-returns-then-place-gt11 c = first_failure_here (place_fault c.args.places.now) _ c.loop_place.place-index _ (omega arith) c.loop_place.invariant (grind (arith, nat_tests))
+returns-then-place-gt11 c = first_failure_here (place_fault c.args.places.now) _ c.loop-place.place-index _ (omega arith) c.loop-place.invariant (grind (arith, nat_tests))
 
 pub loop-place-preserved : goal.loop-place-preserved
-loop-place-preserved c = first_failure_more (place_fault c.args.places.now) _ c.loop_place.invariant (grind (arith, nat_tests))
+loop-place-preserved c = first_failure_more (place_fault c.args.places.now) _ c.loop-place.invariant (grind (arith, nat_tests))
