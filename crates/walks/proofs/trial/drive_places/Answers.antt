@@ -10,7 +10,7 @@ returns-in-Err g c = (
 
 pub loop-place-preserved : goal.loop-place-preserved
 loop-place-preserved g c = (
-  one_leg_further _ _ _ c.loop-place.van c.args.places.now c.loop-place.place-index (vec_items c.loop-place.legs) _ c.loop-place.invariant.0 c.loop-place-test.true c.in-Ok.next c.in-Ok.ensures (vec_items c.push.new.self) c.in_ok-push.ensures.items,
+  one_leg_further _ _ _ c.loop-place.van c.args.places.now c.loop-place.place-index (vec_items c.loop-place.legs) _ c.loop-place.invariant.0 c.loop-place-test.true c.in-Ok.next c.in-Ok.ensures (vec_items c.push.new.self) c.in_ok-push-in-Ok.ensures.items,
   sym (ending_goes_on _ _ _ c.loop-place.van c.args.places.now c.loop-place.place-index c.loop-place-test.true c.in-Ok.next c.in-Ok.ensures) ∙ c.loop-place.invariant.1,
 )
 
