@@ -3,10 +3,10 @@ use Rattle.std.proofs.Common.{◌≡◌, ℕ, zero, suc, ◌+◌, ◌-◌, ◌<�
 use Rattle.std.specs.List.Sorted.{IsPermutation}
 use Rattle.std.specs.List.{swap, swap_remove}
 use Rattle.std.specs.List as holes
-use Rattle.std.proofs.Permutation.{as_core, taken-first}
+use Rattle.std.proofs.Permutation.{as_core}
 use Rattle.std.proofs.lemmas.List.{length-take-le, get_or-take, take_more_set, take-take, drop-set-lt, set-get_or}
 use Rattle.std.proofs.lemmas.List.Edits.{length-swap, swap_is, swapped_from_swap}
-use Rattle.std.proofs.lemmas.List.Sorted.{IsPermutation-refl, IsPermutation-trans, IsPermutation-sym, IsPermutation-to_front, IsPermutation-swap, IsPermutation-cons}
+use Rattle.std.proofs.lemmas.List.Sorted.{IsPermutation-refl, IsPermutation-trans, IsPermutation-sym, IsPermutation-to_front, IsPermutation-swap, IsPermutation-swap_remove, IsPermutation-cons}
 use Rattle.queue.specs.Sifting.{Rearranged}
 
 module _ {X : Type 0} where
@@ -75,7 +75,7 @@ module _ {X : Type 0} where
     pub removes_exactly_the_overwritten : (x : X) → ((d : X) → get_or xs 0 d ≡ x) → IsPermutation (take n xs) (x ∷ take (n - 1) ys)
     removes_exactly_the_overwritten x first =
         let short = length-take-le n xs le in
-        let taken = subst (λ (l : List X). IsPermutation (take n xs) (x ∷ l)) (filled_from_the_end x) (taken-first (take n xs) x (omega arith) (sym (get_or-take n xs 0 x some ∙ first x))) in
+        let taken = subst (λ (l : List X). IsPermutation (take n xs) (x ∷ l)) (filled_from_the_end x) (IsPermutation-swap_remove (take n xs) 0 x (omega arith) (sym (get_or-take n xs 0 x some ∙ first x))) in
         IsPermutation-trans (take n xs) (x ∷ take (n - 1) (set xs 0 y)) (x ∷ take (n - 1) ys) taken (IsPermutation-cons x (take (n - 1) (set xs 0 y)) (take (n - 1) ys) s.same_entries)
 
     unwritten : (m : ℕ) → n - 1 ≡ m → drop (n - 1) (set xs 0 y) ≡ drop (n - 1) xs

@@ -14,7 +14,7 @@ mod calls;
 /// Whether the entry at `a` of a slice comes before the one at `b`.
 fn comes_before<E: Entry>(entries: &[E], a: usize, b: usize) -> bool
     requires { (a < length entries.now) × (b < length entries.now) }
-    ensures { (d : E) → earlier (slice_index_or entries.now a d) (slice_index_or entries.now b d) ≡ result }
+    ensures { (d : E) → E.Entry.earlier (slice_index_or entries.now a d) (slice_index_or entries.now b d) ≡ result }
 {
     entries[a].before(&entries[b])
 }
@@ -23,7 +23,7 @@ impl<'a, E: Entry> Heap<'a, E> {
     /// The entry in the first place.
     fn first(&self) -> E
         requires { 0 < self.now.len }
-        ensures { First earlier self.now result }
+        ensures { First E.Entry.earlier self.now result }
     {
         self.entries[0]
     }
@@ -35,7 +35,7 @@ impl<'a, E: Entry> Heap<'a, E> {
         ensures count_unchanged { self.new.len ≡ self.old.len }
         ensures adds_exactly_the_entry { IsPermutation (entry ∷ take count (slots self.old)) (take (count + 1) (slots self.new)) }
         ensures rest_untouched { drop (count + 1) (slots self.new) ≡ drop (count + 1) (slots self.old) }
-        ensures keeps_heap_order { Heaped earlier (slots self.old) count → Heaped earlier (slots self.new) (count + 1) }
+        ensures keeps_heap_order { Heaped E.Entry.earlier (slots self.old) count → Heaped E.Entry.earlier (slots self.new) (count + 1) }
     {
         self.entries[count] = entry;
         self.sift_up(count);
@@ -48,7 +48,7 @@ impl<'a, E: Entry> Heap<'a, E> {
         ensures count_unchanged { self.new.len ≡ self.old.len }
         ensures removes_exactly_the_first { (x : E) → ((d : E) → slice_index_or (slots self.old) 0 d ≡ x) → IsPermutation (take count (slots self.old)) (x ∷ take (count - 1) (slots self.new)) }
         ensures rest_untouched { drop (count - 1) (slots self.new) ≡ drop (count - 1) (slots self.old) }
-        ensures keeps_heap_order { Heaped earlier (slots self.old) count → Heaped earlier (slots self.new) (count - 1) }
+        ensures keeps_heap_order { Heaped E.Entry.earlier (slots self.old) count → Heaped E.Entry.earlier (slots self.new) (count - 1) }
     {
         let last = count - 1;
         self.entries[0] = self.entries[last];
@@ -61,7 +61,7 @@ impl<'a, E: Entry> Heap<'a, E> {
         ensures over_the_same_slice { OverSameSlice self.old self.new }
         ensures count_unchanged { self.new.len ≡ self.old.len }
         ensures rearranges { Rearranged (start + 1) (slots self.old) (slots self.new) }
-        ensures restores_heap_order { Heaped earlier (slots self.old) start → Heaped earlier (slots self.new) (start + 1) }
+        ensures restores_heap_order { Heaped E.Entry.earlier (slots self.old) start → Heaped E.Entry.earlier (slots self.new) (start + 1) }
     {
         let mut at = start;
         while 0 < at {
@@ -80,7 +80,7 @@ impl<'a, E: Entry> Heap<'a, E> {
         ensures over_the_same_slice { OverSameSlice self.old self.new }
         ensures count_unchanged { self.new.len ≡ self.old.len }
         ensures rearranges { Rearranged count (slots self.old) (slots self.new) }
-        ensures restores_heap_order { HeapedFrom earlier 1 (slots self.old) count → Heaped earlier (slots self.new) count }
+        ensures restores_heap_order { HeapedFrom E.Entry.earlier 1 (slots self.old) count → Heaped E.Entry.earlier (slots self.new) count }
     {
         let mut at = 0;
         while at < count / 2 {
@@ -96,7 +96,7 @@ impl<'a, E: Entry> Heap<'a, E> {
     /// The place of the lesser child of `parent` among the first `count` entries.
     fn lesser_child(&self, parent: usize, count: usize) -> usize
         requires { (parent * 2 + 1 < count) × (count ≤ length (slots self.now)) }
-        ensures { LesserChild earlier (slots self.now) count parent result }
+        ensures { LesserChild E.Entry.earlier (slots self.now) count parent result }
     {
         let left = parent * 2 + 1;
         let right = left + 1;
@@ -113,7 +113,7 @@ impl<'a, E: Entry> Heap<'a, E> {
     /// Whether the entry at `a` comes before the one at `b`.
     fn is_before(&self, a: usize, b: usize) -> bool
         requires { (a < length (slots self.now)) × (b < length (slots self.now)) }
-        ensures { (d : E) → earlier (slice_index_or (slots self.now) a d) (slice_index_or (slots self.now) b d) ≡ result }
+        ensures { (d : E) → E.Entry.earlier (slice_index_or (slots self.now) a d) (slice_index_or (slots self.now) b d) ≡ result }
     {
         comes_before(self.entries, a, b)
     }

@@ -9,7 +9,7 @@ use crate::heap::Heap;
 impl<'a, E: Entry> Heap<'a, E> {
     /// The entry that leaves next, none of the others coming before it; none when the queue is empty.
     pub fn peek(&self) -> Option<E>
-        ensures { MatchOption result (self.now.len ≡ 0) (λ x. First earlier self.now x) }
+        ensures { MatchOption result (self.now.len ≡ 0) (λ x. First E.Entry.earlier self.now x) }
     {
         if self.len == 0 {
             return None;
@@ -20,7 +20,7 @@ impl<'a, E: Entry> Heap<'a, E> {
     /// Puts an entry in, in the logarithm of the count; refused when the slice is full, and then nothing has changed.
     pub fn push(&mut self, entry: E) -> Result<(), Full>
         ensures over_the_same_slice { OverSameSlice self.old self.new }
-        ensures adds_the_entry_unless_full { MatchResult result (λ _. Pushed earlier self.old entry self.new) (λ _. (self.old.len ≡ length (slots self.old)) × (self.new ≡ self.old)) }
+        ensures adds_the_entry_unless_full { MatchResult result (λ _. Pushed E.Entry.earlier self.old entry self.new) (λ _. (self.old.len ≡ length (slots self.old)) × (self.new ≡ self.old)) }
     {
         let count = self.len;
         if count == self.entries.len() {
@@ -34,7 +34,7 @@ impl<'a, E: Entry> Heap<'a, E> {
     /// Takes out the entry that leaves next, in the logarithm of the count; none when the queue is empty.
     pub fn pop(&mut self) -> Option<E>
         ensures over_the_same_slice { OverSameSlice self.old self.new }
-        ensures takes_the_first_unless_empty { MatchOption result ((self.old.len ≡ 0) × (self.new ≡ self.old)) (λ x. Popped earlier self.old x self.new) }
+        ensures takes_the_first_unless_empty { MatchOption result ((self.old.len ≡ 0) × (self.new ≡ self.old)) (λ x. Popped E.Entry.earlier self.old x self.new) }
     {
         let count = self.len;
         if count == 0 {
