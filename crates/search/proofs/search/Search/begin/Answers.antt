@@ -23,7 +23,7 @@ invariant_of-self g c =
     let p = passed (length (g.M.Map.rows c.args.map.now)) ((g.K.Kind.meaning c.args.kind.now).admits c.args.load) c.args.start c.args.goal c.args.deadline (length c.args.labels.now) (length c.args.waiting.now) c.in_default.ensures in
     let el : length c.put.new.labels ≡ length c.args.labels.now = search rules in
     let ew : length c.push_roads-used.new.waiting ≡ length c.args.waiting.now = search rules in
-    ((omega (arith, el, p.some), omega (arith, el, p.few), omega (arith, c.push_roads-used.ensures.few), omega (arith, el, ew, p.wide)), tt)
+    record { sized = (omega (arith, el, p.some), omega (arith, el, p.few), omega (arith, c.push_roads-used.ensures.few), omega (arith, el, ew, p.wide)) }
 
 pub returns-then-start-goal : goal.returns-then-start-goal
 returns-then-start-goal g c =
