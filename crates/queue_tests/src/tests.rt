@@ -105,8 +105,8 @@ fn count_past_the_slice_means_all_of_it(rt: HostRuntime) {
 fn push_then_pop<E: Entry>(entries: &mut [E], count: usize, entry: E) -> Option<E>
     requires { count < length entries.old }
     ensures exchanges_one_entry { IsSomeAnd result (λ x. IsPermutation (entry ∷ take count entries.old) (x ∷ take count entries.new)) }
-    ensures none_comes_before_it { IsSomeAnd result (λ x. Heaped earlier entries.old count → Least earlier x (entry ∷ take count entries.old)) }
-    ensures keeps_heap_order { Heaped earlier entries.old count → Heaped earlier entries.new count }
+    ensures none_comes_before_it { IsSomeAnd result (λ x. Heaped E.Entry.earlier entries.old count → Least E.Entry.earlier x (entry ∷ take count entries.old)) }
+    ensures keeps_heap_order { Heaped E.Entry.earlier entries.old count → Heaped E.Entry.earlier entries.new count }
     ensures rest_untouched { drop (count + 1) entries.new ≡ drop (count + 1) entries.old }
 {
     let mut heap = Heap::over(entries, count);
