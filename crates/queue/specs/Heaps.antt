@@ -1,6 +1,6 @@
 -- A binary heap, least entry first, in the first places of a list: the children of the entry at p stand at p * 2 + 1 and p * 2 + 2.
 use Rattle.std.specs.Prelude.{◌≡◌, ℕ, ◌+◌, ◌*◌, ◌<◌, ◌≤◌, Bool, false, List, slice_index_or}
-use Rattle.std.specs.List.{AllByRecursion as All}
+use Rattle.std.specs.List.{AllByRecursion}
 
 module _ {X : Type 0} (before : X → X → Bool) where
   -- of the first n entries, none comes before its parent, where the parent stands at `low` or later
@@ -13,4 +13,4 @@ module _ {X : Type 0} (before : X → X → Bool) where
 
   -- no entry of xs comes before x
   abbrev pub Least : X → List X → Type 0
-  Least x xs = All (λ y. before y x ≡ false) xs
+  Least x xs = AllByRecursion (λ y. before y x ≡ false) xs
