@@ -22,7 +22,7 @@ returns-in-Err c =
     let at : next_line new.file new.taken (lines_left new) ≡ next_line Roads 0 (pieces 10 c.args.text.now) =
     ap (λ f. next_line f new.taken (lines_left new)) file ∙ ap (λ n. next_line Roads n (lines_left new)) none ∙ ap (next_line Roads 0) left in
     let line : Ok (Some c.in-Some.line.now) ≡ next_line Roads 0 (pieces 10 c.args.text.now) =
-    sym (ap (λ o. told (Ok o)) c.in-Some.is) ∙ c.in_ok-next-line.ensures.line_or_fault ∙ at in
+    sym (ap (λ o. told (Ok o)) c.in-Some.is) ∙ c.in_ok-next_line.ensures.line_or_fault ∙ at in
     let count = c.next_line.ensures.line_counted ∙ ap (λ n. count_after n (lines_left new)) none ∙ ap (count_after 0) left in
     names_refused Roads road_names_line (road_taken c.args.room) (tables c.args.rows.now) (pieces 10 c.args.text.now) c.in-Some.line.now c.in-Err.fault line c.in-Err.ensures
     ∙ ap Err (sym (c.fault.ensures ∙ ap (λ f. placed f c.next_line.new.self.taken c.in-Err.fault) (c.next_line.ensures.file_kept ∙ file) ∙ ap (λ n. placed Roads n c.in-Err.fault) count))

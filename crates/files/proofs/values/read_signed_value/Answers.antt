@@ -23,18 +23,18 @@ plain f r m e =
 pub returns-in_err-v : goal.returns-in_err-v
 returns-in_err-v c =
     let p = err_from_is_err_and c.from_residual.result c.from_residual.ensures.1 in
-    rw (p.1, p.2) (plain c.args.field.now _ c.if-not-has-minus.ensures c.in_err-v.ensures.value_or_refusal)
+    rw (p.1, p.2) (plain c.args.field.now _ c.if-not-has_minus.ensures c.in_err-v.ensures.value_or_refusal)
 
 pub returns-in_err-v-2 : goal.returns-in_err-v-2
 returns-in_err-v-2 c =
     let e = c.in_err-v-2.ensures.value_or_refusal in
     let p = err_from_is_err_and c.from_residual-in_err-v-2.result c.from_residual-in_err-v-2.ensures.1 in
-    rw (p.1, p.2) (behind c.args.field.now _ c.if-not-has-minus.ensures e)
+    rw (p.1, p.2) (behind c.args.field.now _ c.if-not-has_minus.ensures e)
 
 pub returns-then-v-eq0 : goal.returns-then-v-eq0
 returns-then-v-eq0 c =
     let e = c.in_ok-v-2.ensures.value_or_refusal in
-    sym (ap (λ t. cond t (Err NotAValue) (Ok (neg_ℤ (pos c.in_ok-v-2.v)))) (eq-eqb _ 0 c.if-v-eq0.true)) ∙ behind c.args.field.now _ c.if-not-has-minus.ensures e
+    sym (ap (λ t. cond t (Err NotAValue) (Ok (neg_ℤ (pos c.in_ok-v-2.v)))) (eq-eqb _ 0 c.if-v-eq0.true)) ∙ behind c.args.field.now _ c.if-not-has_minus.ensures e
 
 pub returns : goal.returns
 returns c =
@@ -42,4 +42,4 @@ returns c =
     let v = c.in_ok-v-2.v in
     let b = c.in_ok-v-2.ensures.below_a_million in
     let z : to_z w32 (of_z w32 (pos 0 -ℤ to_z w32 v)) ≡ neg_ℤ (pos v) = omega (arith, ints, b) in
-    ap Ok z ∙ sym (ap (λ t. cond t (Err NotAValue) (Ok (neg_ℤ (pos v)))) (ne_eqb v 0 c.if-v-eq0.false)) ∙ behind c.args.field.now _ c.if-not-has-minus.ensures e
+    ap Ok z ∙ sym (ap (λ t. cond t (Err NotAValue) (Ok (neg_ℤ (pos v)))) (ne_eqb v 0 c.if-v-eq0.false)) ∙ behind c.args.field.now _ c.if-not-has_minus.ensures e
