@@ -1,6 +1,6 @@
-use Rattle.std.proofs.Common.{◌≡◌, ℕ, suc, ◌+◌, ◌-◌, ◌*◌, ◌<◌, ◌≤◌, Bool, true, false, cond, ◌&&◌, eqb, ltb, leb, List, [], ◌∷◌, ◌++◌, length, get_or, take, drop, sym, refl, ap, ◌∙◌, subst, arith, le-leb}
+use Rattle.std.proofs.Common.{◌≡◌, ℕ, suc, ◌+◌, ◌-◌, ◌*◌, ◌<◌, ◌≤◌, true, false, cond, ◌&&◌, eqb, leb, List, length, get_or, drop, ap, ◌∙◌, le-leb}
 use Rattle.std.proofs.lemmas.List.{at_drop_more, at_drop_all}
-use Rattle.files.specs.Lines.{run, pieces, grown}
+use Rattle.files.specs.Lines.{run}
 use Rattle.files.specs.Values.{all_digits, numeral}
 
 pub run_more : (b : ℕ) (xs : List ℕ) (i : ℕ) → i < length xs → eqb (get_or xs i 0) b ≡ false → run b (drop i xs) ≡ suc (run b (drop (i + 1) xs))

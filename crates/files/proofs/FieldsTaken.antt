@@ -1,10 +1,10 @@
 -- What a field reader finds at its place.
-use Rattle.std.proofs.Common.{◌≡◌, ℕ, suc, ◌+◌, ◌-◌, ◌<◌, ◌≤◌, Bool, true, false, cond, not, ◌&&◌, eqb, List, [], ◌∷◌, length, get_or, take, drop, is_some, Some, None, Option, sym, refl, ap, ◌∙◌, subst, arith, ne_eqb}
+use Rattle.std.proofs.Common.{◌≡◌, ℕ, suc, ◌-◌, ◌<◌, ◌≤◌, false, not, List, [], ◌∷◌, length, take, drop, is_some, Some, None, Option, sym, refl, ap, ◌∙◌, arith}
 use Rattle.std.proofs.lemmas.Bool.Decides.{nat_tests}
 use Rattle.std.proofs.lemmas.List.{take_all}
 use Rattle.std.specs.Option.{option_map}
 use Rattle.files.specs.Lines.{run, pieces}
-use Rattle.files.specs.Fields.{parted, none_empty}
+use Rattle.files.specs.Fields.{parted}
 use Rattle.files.specs.FieldsLeft.{first, rest}
 use Rattle.files.proofs.Pieces.{pieces_run, pieces_end}
 

@@ -1,9 +1,7 @@
 -- What a line more, or the end of the lines, makes of what was read of a file.
-use Rattle.std.proofs.Common.{◌≡◌, ℕ, ◌+◌, Bool, true, false, cond, eqb, List, [], ◌∷◌, length, Some, None, Ok, Err, Option, Result, sym, refl, ap, ◌∙◌, arith}
-use Rattle.refusals.specs.declared.refusal.Refusal.TheVariants.{WrongNames, LineNotEnded}
+use Rattle.std.proofs.Common.{◌≡◌, ℕ, ◌+◌, Bool, true, false, cond, List, [], ◌∷◌, Some, None, Ok, Err, Option, Result, sym, refl, ap, ◌∙◌, arith}
 use Rattle.files.specs.declared.fault.FileName.{FileName}
 use Rattle.files.specs.declared.fault.LineFault.{LineFault}
-use Rattle.files.specs.declared.fault.LineFault.TheVariants.{WholeLine}
 use Rattle.files.specs.declared.fault.FileFault.{FileFault}
 use Rattle.files.specs.Faults.{then, placed, at_line}
 use Rattle.files.specs.LinesLeft.{next_line, after_line, count_after}

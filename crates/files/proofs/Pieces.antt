@@ -1,5 +1,5 @@
 -- A text's first piece ends where its first byte b stands, and the rest falls into the other pieces.
-use Rattle.std.proofs.Common.{◌≡◌, ℕ, suc, ◌+◌, ◌-◌, ◌<◌, ◌≤◌, Bool, true, false, cond, eqb, List, [], ◌∷◌, length, get_or, take, drop, Some, None, Ok, Err, Option, Result, sym, refl, ap, ◌∙◌, subst, arith, ne_eqb}
+use Rattle.std.proofs.Common.{◌≡◌, ℕ, suc, ◌+◌, ◌<◌, ◌≤◌, true, false, cond, eqb, List, [], ◌∷◌, length, take, drop, Some, None, Ok, Err, Option, Result, sym, refl, ap, ◌∙◌, subst, arith, ne_eqb}
 use Rattle.files.specs.Lines.{run, pieces, grown}
 use Rattle.files.specs.Faults.{placed}
 use Rattle.files.specs.LinesLeft.{next_line, after_line, count_after}

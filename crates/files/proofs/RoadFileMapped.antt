@@ -1,7 +1,6 @@
 -- What the definition with tables gives, the definition with a list of roads gives too.
-use Rattle.std.proofs.Common.{◌≡◌, ℕ, ◌+◌, ◌*◌, ◌<◌, ◌≤◌, Bool, true, false, cond, eqb, ltb, List, [], ◌∷◌, ◌++◌, length, Ok, Err, Result, sym, refl, ap, ◌∙◌, subst, arith, ltb-true}
+use Rattle.std.proofs.Common.{◌≡◌, ℕ, ◌+◌, ◌*◌, ◌<◌, ◌≤◌, true, false, cond, eqb, ltb, List, [], ◌∷◌, ◌++◌, length, Ok, Err, Result, refl, ap, ◌∙◌, subst, ltb-true}
 use Rattle.refusals.specs.declared.refusal.Refusal.TheVariants.{ThirteenthRoad, LineNotEnded}
-use Rattle.files.specs.declared.fault.FileName.{FileName}
 use Rattle.files.specs.declared.fault.FileName.TheVariants.{Roads}
 use Rattle.files.specs.declared.fault.LineFault.{LineFault}
 use Rattle.files.specs.declared.fault.LineFault.TheVariants.{WholeLine}

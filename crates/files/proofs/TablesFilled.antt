@@ -1,5 +1,5 @@
 -- The tables of a road file hold its road lines, and pass every check of a map.
-use Rattle.std.proofs.Common.{◌≡◌, ℕ, zero, suc, ◌+◌, ◌*◌, ◌/◌, ◌%◌, ◌<◌, ◌≤◌, max, Bool, true, false, cond, not, ◌||◌, eqb, ltb, List, [], ◌∷◌, ◌++◌, length, get_or, take, set, ℤ, pos, negsuc, ◌≤ℤ◌, Some, None, Option, sym, refl, ap, ◌∙◌, subst, ⊎_elim, add-one, arith, length-set, get_or-set_other, get_or-set_same}
+use Rattle.std.proofs.Common.{◌≡◌, ℕ, zero, suc, ◌+◌, ◌*◌, ◌/◌, ◌%◌, ◌<◌, ◌≤◌, max, Bool, true, false, cond, ltb, List, [], ◌∷◌, ◌++◌, length, get_or, take, set, ℤ, pos, negsuc, ◌≤ℤ◌, Some, None, Option, sym, refl, ap, ◌∙◌, subst, ⊎_elim, add-one, arith, length-set, get_or-set_other, get_or-set_same}
 use lib.Signed.{lt_z}
 use Rattle.std.proofs.lemmas.Bool.{cases_eq, cases_lt, cases_Bool, cond-false, cond_both, lt-ltb, le-ltb, eq-eqb, ne_eqb, or_from, not_from_true, ltb-true}
 use Rattle.std.proofs.lemmas.Int.{ints}
@@ -9,7 +9,7 @@ use Rattle.refusals.specs.declared.refusal.Refusal.TheVariants.{TableLengthsDisa
 use Rattle.maps.specs.declared.road.Road.{Road}
 use Rattle.maps.specs.FirstFailure.{or_else, first_failure}
 use Rattle.maps.specs.FirstFailureFound.{first_failure_none, first_failure_more}
-use Rattle.maps.specs.Table.{table_place, lengths_fault, count_fault, road_fault, entry_fault, table_refusal}
+use Rattle.maps.specs.Table.{table_place, lengths_fault, count_fault, road_fault, entry_fault}
 use Rattle.files.specs.declared.roads.RoadColumn.{RoadColumn}
 use Rattle.files.specs.declared.roads.RoadColumn.TheVariants.{From, To, Seconds, WattHours}
 use Rattle.files.specs.declared.roads.RoadLine.{RoadLine}

@@ -1,5 +1,5 @@
 -- A road file means a list of roads, and its tables are the map of them: the k-th road from a junction is at its place k − 1.
-use Rattle.std.specs.Prelude.{◌≡◌, ℕ, ◌+◌, ◌*◌, ◌<◌, max, cond, List, [], ◌∷◌, ◌++◌, length, Some, None, Ok, Err, Option, Result, ◌==◌, nat_lt, slice_index, slice_index_or}
+use Rattle.std.specs.Prelude.{◌≡◌, ℕ, ◌+◌, ◌<◌, max, cond, List, [], ◌∷◌, ◌++◌, length, Some, None, Ok, Err, Option, Result, ◌==◌, nat_lt, slice_index, slice_index_or}
 use Rattle.refusals.specs.declared.refusal.Refusal.TheVariants.{ThirteenthRoad}
 use Rattle.maps.specs.declared.road.Road.{Road}
 use Rattle.maps.specs.Table.{table_place, table_refusal}

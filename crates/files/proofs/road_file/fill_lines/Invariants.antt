@@ -1,4 +1,4 @@
-use Rattle.std.proofs.Common.{◌≡◌, true, length, vec_len}
+use Rattle.std.proofs.Common.{◌≡◌, length, vec_len}
 use Rattle.files.specs.LinesLeft.{lines_left}
 use Rattle.files.specs.Tables.{tables}
 use Rattle.files.specs.Files.{lines_read}

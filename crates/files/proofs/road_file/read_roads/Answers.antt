@@ -1,4 +1,4 @@
-use Rattle.std.proofs.Common.{◌≡◌, ◌≤◌, min, ap, subst, arith}
+use Rattle.std.proofs.Common.{◌≤◌, min, subst, arith}
 use Rattle.files.specs.Tables.{tables}
 use Rattle.files.specs.Files.{ReadAs}
 use Rattle.files.specs.RoadFile.{road_tables}

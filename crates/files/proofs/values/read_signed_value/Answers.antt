@@ -1,4 +1,4 @@
-use Rattle.std.proofs.Common.{◌≡◌, ℕ, ◌-◌, true, false, cond, eqb, List, length, take, drop, ℤ, pos, ◌-ℤ◌, neg_ℤ, Ok, Err, Result, sym, ap, ◌∙◌, arith, w32, to_z, of_z, eq-eqb, ne_eqb}
+use Rattle.std.proofs.Common.{◌≡◌, ℕ, ◌-◌, true, false, cond, List, length, take, drop, pos, ◌-ℤ◌, neg_ℤ, Ok, Err, Result, sym, ap, ◌∙◌, arith, w32, to_z, of_z, eq-eqb, ne_eqb}
 use Rattle.std.proofs.lemmas.Result.{err_from_is_err_and}
 use Rattle.std.proofs.lemmas.List.{take_rest}
 use Rattle.std.proofs.lemmas.Int.{ints}

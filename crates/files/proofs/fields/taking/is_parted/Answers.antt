@@ -1,8 +1,8 @@
-use Rattle.std.proofs.Common.{◌≡◌, ◌+◌, ◌-◌, true, false, not, eqb, length, is_some, sym, refl, ap, ◌∙◌, arith, true-eqb, false-eqb}
+use Rattle.std.proofs.Common.{◌≡◌, ◌+◌, ◌-◌, true, false, not, eqb, length, is_some, sym, ap, ◌∙◌, arith, true-eqb, false-eqb}
 use mathlib.Core.Bool.{not-not}
 use Rattle.files.specs.Lines.{pieces}
 use Rattle.files.specs.Fields.{parted}
-use Rattle.files.specs.FieldsLeft.{first, rest, fields_left}
+use Rattle.files.specs.FieldsLeft.{rest, fields_left}
 use Rattle.files.proofs.FieldsTaken.{parted_none, parted_empty, parted_more, parted_all, some_mapped}
 use Rattle.files.proofs.fields.taking.is_parted.Goals as goal
 
