@@ -1,7 +1,6 @@
 -- The charge kind: a load is the charge of a battery in watt-hours.
-use Rattle.std.specs.Prelude.{ℕ, suc, ◌+◌, ◌-◌, min, Bool, true, false, cond, ◌&&◌, ℤ, pos, negsuc, Some, None, Option, nat_le}
+use Rattle.std.specs.Prelude.{ℕ, suc, ◌+◌, ◌-◌, min, cond, ◌&&◌, ℤ, pos, negsuc, Some, None, Option, nat_le}
 use Rattle.std.specs.Option.{option_map}
-use Rattle.maps.specs.declared.road.Road.{Road}
 use Rattle.loads.specs.declared.charge.Charge.{Charge}
 use Rattle.loads.specs.Meaning.{Meaning}
 

@@ -1,12 +1,11 @@
 -- The charge kind keeps the laws.
-use Rattle.std.specs.Prelude.{◌≡◌, ℕ, suc, ◌+◌, ◌-◌, ◌^◌, ◌<◌, ◌≤◌, min, Bool, true, false, cond, ◌&&◌, ℤ, pos, negsuc, Some, None, Option, nat_le, refl}
-use Rattle.std.proofs.Common.{sym, ap, ap₂, subst, ◌∙◌, arith}
+use Rattle.std.specs.Prelude.{◌≡◌, ℕ, suc, ◌+◌, ◌-◌, ◌^◌, ◌<◌, ◌≤◌, min, Bool, true, false, cond, ℤ, pos, negsuc, Some, None, nat_le, refl}
+use Rattle.std.proofs.Common.{sym, ap, ◌∙◌, arith}
 use Rattle.std.specs.Option.{option_map}
 use Rattle.std.proofs.lemmas.Bool.{leb-true, leb-false, le-leb, lt-leb, and_parts, and_from, and_left, and_right, cond-true, cond-false, cond_both}
 use Rattle.maps.specs.declared.road.Road.{Road}
 use Rattle.loads.specs.declared.charge.Charge.{Charge}
-use Rattle.loads.specs.Meaning.{Meaning}
-use Rattle.loads.specs.Laws.{Laws, NoToAll}
+use Rattle.loads.specs.Laws.{Laws}
 use Rattle.loads.specs.Charge.{spent, charge, charges}
 use Rattle.loads.specs.Picked.{some_same, passed, from_mapped}
 

@@ -1,5 +1,5 @@
 -- The laws of a load kind.
-use Rattle.std.specs.Prelude.{◌≡◌, ℕ, ◌^◌, ◌<◌, ◌≤◌, Bool, true, false, Some, None}
+use Rattle.std.specs.Prelude.{◌≡◌, ◌^◌, ◌<◌, ◌≤◌, true, false, Some, None}
 use Rattle.maps.specs.declared.road.Road.{Road}
 use Rattle.loads.specs.Meaning.{Meaning}
 

@@ -1,16 +1,12 @@
 -- What is known of rows made from a function, and of the rows of a layer.
-use Rattle.std.proofs.Common.{◌≡◌, ℕ, ◌+◌, ◌<◌, ◌≤◌, Bool, true, false, cond, ltb, ◌⊎◌, List, [], map, length, get_or, Some, None, Ok, Err, Option, Result, sym, refl, ap, ◌∙◌, subst, inl, inr, ⊎_elim, zero-add, arith}
-use Rattle.std.specs.List.{range_with_len}
-use Rattle.std.proofs.lemmas.List.FromFn.{length-map-range_with_len, get_or-map-range_with_len}
-use Rattle.std.proofs.lemmas.List.{get_or_past}
-use Rattle.std.proofs.lemmas.Bool.{cases_lt, lt-ltb, le-ltb}
+use Rattle.std.proofs.Common.{◌≡◌, ℕ, ◌<◌, ◌≤◌, ◌⊎◌, length, None, Ok, Err, Option, sym, ap, ◌∙◌, inl, inr, arith}
+use Rattle.std.proofs.lemmas.Bool.{cases_lt, le-ltb}
 use Rattle.std.proofs.lemmas.Bool.Decides.{nat_tests}
 use Rattle.maps.specs.declared.road.Road.{Road}
 use Rattle.refusals.specs.declared.refusal.Refusal.{Refusal}
 use Rattle.refusals.specs.declared.refusal.Refusal.TheVariants.{JunctionOffMap, PlaceAboveEleven}
-use Rattle.maps.specs.SomeRoad.{none_some}
-use Rattle.maps.specs.RowsSound.{length_tabulated, at_tabulated, at_past, at_beyond, length_layered}
-use Rattle.maps.specs.Rows.{Rows, at, Fits, Sound, reply, answered, tabulated, layered}
+use Rattle.maps.specs.RowsSound.{length_tabulated, at_tabulated, at_past, at_beyond}
+use Rattle.maps.specs.Rows.{Rows, at, Sound, reply, answered, tabulated, layered}
 
 -- the reply looks at the place only where both questions are in range
 pub reply_same : (n v k : ℕ) (a b : Option Road) → (v < n → k < 12 → a ≡ b) → reply n v k a ≡ reply n v k b

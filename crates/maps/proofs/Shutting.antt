@@ -1,7 +1,7 @@
 -- What one changed entry makes of the shut places.
 use Rattle.std.proofs.Common.{◌≡◌, ℕ, zero, suc, ◌+◌, ◌<◌, ◌≤◌, Bool, true, false, cond, not, ◌&&◌, ◌||◌, eqb, ◌⊎◌, List, [], ◌∷◌, length, get_or, set, replicate, is_some, Some, None, Option, sym, refl, ap, ◌∙◌, subst, ap₂, inl, inr, arith}
 use Rattle.std.proofs.lemmas.List.{get_or-set_same, get_or-set_other}
-use Rattle.std.proofs.lemmas.Bool.{cases_eq, cases_lt, cond-true, cond-false, and_left, and_parts, or_left, not-true, not-false, eqb-true, eq-eqb, ne_eqb, true≢false}
+use Rattle.std.proofs.lemmas.Bool.{cases_eq, cond-true, cond-false, and_left, and_parts, or_left, not-true, not-false, eqb-true, eq-eqb, ne_eqb, true≢false}
 use Rattle.maps.specs.declared.closures.Entry.{Entry}
 use Rattle.maps.specs.FirstFailure.{or_else, first_failure}
 use Rattle.maps.specs.FirstFailureFound.{first_failure_stays, first_failure_each}

@@ -1,5 +1,5 @@
 -- Closures: a shut place is empty, and all others are as on the map below.
-use Rattle.std.specs.Prelude.{◌≡◌, ℕ, ◌+◌, Bool, true, false, cond, not, ◌&&◌, ◌||◌, List, length, Some, None, Option, ◌==◌, nat_lt, refl}
+use Rattle.std.specs.Prelude.{◌≡◌, ℕ, ◌+◌, Bool, false, cond, not, ◌&&◌, ◌||◌, List, length, Some, None, Option, ◌==◌, nat_lt}
 use Rattle.refusals.specs.declared.refusal.Refusal.{Refusal}
 use Rattle.refusals.specs.declared.refusal.Refusal.TheVariants.{JunctionOffMap, PlaceAboveEleven, PlaceAlreadyShut, PlaceNotShut, SixtyFourShut}
 use Rattle.maps.specs.declared.road.Road.{Road}

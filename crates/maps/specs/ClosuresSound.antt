@@ -1,5 +1,5 @@
 -- Closures over a sound map give a sound map.
-use Rattle.std.specs.Prelude.{◌≡◌, ℕ, Bool, true, false, cond, List, Some, None, Option, refl}
+use Rattle.std.specs.Prelude.{◌≡◌, Bool, true, false, cond, List, Some, None, Option, refl}
 use Rattle.maps.specs.declared.road.Road.{Road}
 use Rattle.maps.specs.declared.closures.Entry.{Entry}
 use Rattle.maps.specs.Rows.{Rows, at, Sound}

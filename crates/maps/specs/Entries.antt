@@ -1,5 +1,5 @@
 -- The closures' table: records that each shut one place, or are free.
-use Rattle.std.specs.Prelude.{◌≡◌, ℕ, ◌+◌, ◌<◌, Bool, true, false, cond, not, ◌&&◌, List, [], ◌∷◌, length, is_some, Some, None, Option, ◌==◌, slice_index_or}
+use Rattle.std.specs.Prelude.{◌≡◌, ℕ, ◌+◌, ◌<◌, Bool, true, false, cond, ◌&&◌, List, [], ◌∷◌, is_some, Some, None, Option, ◌==◌, slice_index_or}
 use Rattle.maps.specs.declared.closures.Entry.{Entry}
 use Rattle.maps.specs.FirstFailure.{first_failure}
 

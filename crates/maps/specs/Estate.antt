@@ -1,5 +1,5 @@
 -- An estate: junctions in rows and columns, each with roads to its neighbours.
-use Rattle.std.specs.Prelude.{ℕ, ◌+◌, ◌-◌, ◌*◌, ◌/◌, ◌%◌, Bool, cond, ◌||◌, pos, ◌-ℤ◌, Some, None, Option, ◌==◌, nat_lt}
+use Rattle.std.specs.Prelude.{ℕ, ◌+◌, ◌-◌, ◌*◌, ◌/◌, ◌%◌, cond, ◌||◌, pos, ◌-ℤ◌, Some, None, Option, ◌==◌, nat_lt}
 use Rattle.maps.specs.declared.road.Road.{Road}
 use Rattle.refusals.specs.declared.refusal.Refusal.{Refusal}
 use Rattle.refusals.specs.declared.refusal.Refusal.TheVariants.{EstateSizeOutOfRange, RoadTimeOutOfRange, EstateDrawTooHigh}

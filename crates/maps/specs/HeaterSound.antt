@@ -1,10 +1,10 @@
 -- A heater over a sound map gives a sound map.
-use Rattle.std.specs.Prelude.{◌≡◌, ℕ, ◌+◌, ◌*◌, ◌/◌, ◌≤◌, Bool, true, false, cond, length, pos, negsuc, ◌+ℤ◌, ◌≤ℤ◌, Some, None, Option, int_le, refl}
-use Rattle.std.proofs.Common.{sym, ap, subst, ◌∙◌, arith}
+use Rattle.std.specs.Prelude.{◌≡◌, ℕ, true, length, pos, negsuc, ◌+ℤ◌, ◌≤ℤ◌, Some, None, Option, int_le, refl}
+use Rattle.std.proofs.Common.{arith}
 use Rattle.std.proofs.lemmas.Int.{ints}
 use Rattle.maps.specs.declared.road.Road.{Road}
 use Rattle.maps.specs.Rows.{Rows, at, Fits, Sound}
-use Rattle.maps.specs.Heater.{extra, heated_road, heated, heated_rows}
+use Rattle.maps.specs.Heater.{extra, heated, heated_rows}
 use Rattle.maps.specs.SomeRoad.{none_some, under}
 use Rattle.maps.specs.RowsSound.{sound_layered}
 

@@ -1,15 +1,13 @@
 -- What is known of rows made from a function, and of the rows of a layer.
-use Rattle.std.specs.Prelude.{◌≡◌, ℕ, ◌+◌, ◌<◌, ◌≤◌, Bool, true, false, cond, ◌⊎◌, List, [], map, length, get_or, Some, None, Ok, Err, Option, Result, slice_index_or, refl}
-use Rattle.std.proofs.Common.{sym, ap, subst, ◌∙◌, inl, inr, ⊎_elim, zero-add, arith}
+use Rattle.std.specs.Prelude.{◌≡◌, ℕ, ◌<◌, ◌≤◌, ◌⊎◌, List, [], map, length, get_or, Some, None, Option, slice_index_or}
+use Rattle.std.proofs.Common.{sym, ap, subst, ◌∙◌, inl, inr, zero-add, arith}
 use Rattle.std.specs.List.{range_with_len}
 use Rattle.std.proofs.lemmas.List.FromFn.{length-map-range_with_len, get_or-map-range_with_len}
 use Rattle.std.proofs.lemmas.List.{get_or_past}
-use Rattle.std.proofs.lemmas.Bool.{cases_lt, lt-ltb, le-ltb}
+use Rattle.std.proofs.lemmas.Bool.{cases_lt}
 use Rattle.maps.specs.declared.road.Road.{Road}
-use Rattle.refusals.specs.declared.refusal.Refusal.{Refusal}
-use Rattle.refusals.specs.declared.refusal.Refusal.TheVariants.{JunctionOffMap, PlaceAboveEleven}
 use Rattle.maps.specs.SomeRoad.{none_some}
-use Rattle.maps.specs.Rows.{Rows, at, Fits, Sound, reply, answered, tabulated, layered}
+use Rattle.maps.specs.Rows.{Rows, at, Fits, Sound, tabulated, layered}
 
 pub length_tabulated : (n : ℕ) (f : ℕ → ℕ → Option Road) → length (tabulated n f) ≡ n
 unfolding tabulated

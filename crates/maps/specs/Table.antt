@@ -1,5 +1,5 @@
 -- The table map: what its tables mean, and the checks that they pass.
-use Rattle.std.specs.Prelude.{ℕ, ◌+◌, ◌*◌, ◌/◌, ◌%◌, Bool, cond, not, ◌&&◌, ◌||◌, List, length, ℤ, pos, negsuc, Some, None, Option, ◌==◌, int_lt, nat_lt, slice_index, slice_index_or}
+use Rattle.std.specs.Prelude.{ℕ, ◌+◌, ◌*◌, ◌/◌, ◌%◌, cond, not, ◌||◌, List, length, ℤ, pos, negsuc, Some, None, Option, ◌==◌, int_lt, nat_lt, slice_index, slice_index_or}
 use Rattle.maps.specs.declared.road.Road.{Road}
 use Rattle.refusals.specs.declared.refusal.Refusal.{Refusal}
 use Rattle.refusals.specs.declared.refusal.Refusal.TheVariants.{TableLengthsDisagree, CountAboveTwelve, HeadOffMap, RoadTimeOutOfRange, RoadDrawOutOfRange}

@@ -1,12 +1,12 @@
 -- Tables that pass every check make a sound map.
-use Rattle.std.specs.Prelude.{◌≡◌, ℕ, ◌+◌, ◌*◌, ◌/◌, ◌%◌, ◌<◌, ◌≤◌, Bool, true, false, cond, not, List, length, ℤ, pos, negsuc, ◌≤ℤ◌, is_some, Some, None, Option, ◌==◌, ◌≢◌, int_lt, nat_lt, slice_index, slice_index_or, refl}
-use Rattle.std.proofs.Common.{sym, ap, subst, ◌∙◌, arith}
+use Rattle.std.specs.Prelude.{◌≡◌, ℕ, ◌+◌, ◌*◌, ◌/◌, ◌%◌, ◌<◌, ◌≤◌, Bool, true, false, cond, List, length, ℤ, pos, ◌≤ℤ◌, is_some, Some, None, Option, ◌==◌, ◌≢◌, int_lt, nat_lt, slice_index, slice_index_or, refl}
+use Rattle.std.proofs.Common.{sym, ap, ◌∙◌, arith}
 use Rattle.std.proofs.lemmas.Bool.{ltb-true, ltb-false, eqb-false, not-false, or_parts, true≢false}
 use Rattle.std.proofs.lemmas.Int.{ints}
 use Rattle.maps.specs.declared.road.Road.{Road}
 use Rattle.refusals.specs.declared.refusal.Refusal.{Refusal}
 use Rattle.maps.specs.Rows.{Fits, Sound}
-use Rattle.maps.specs.FirstFailure.{or_else, first_failure}
+use Rattle.maps.specs.FirstFailure.{first_failure}
 use Rattle.maps.specs.Table.{lengths_fault, count_fault, road_fault, entry_fault, table_place, table_rows, table_refusal}
 use Rattle.maps.specs.SomeRoad.{under}
 use Rattle.maps.specs.FirstFailureFound.{first_failure_each, or_else_none}

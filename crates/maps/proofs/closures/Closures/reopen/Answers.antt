@@ -1,4 +1,4 @@
-use Rattle.std.proofs.Common.{◌≡◌, ◌<◌, true, length, sym, refl, ◌∙◌, arith, rules}
+use Rattle.std.proofs.Common.{◌≡◌, length, sym, refl, ◌∙◌, arith, rules}
 use Rattle.maps.proofs.Shutting.{none_twice_after_reopen, one_less_after_reopen}
 use Rattle.maps.proofs.ClosedRows.{reopened_place_is_as_below}
 use Rattle.maps.proofs.closures.Closures.reopen.Goals as goal

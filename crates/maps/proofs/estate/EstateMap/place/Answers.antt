@@ -1,6 +1,6 @@
-use Rattle.std.proofs.Common.{◌*◌, sym, ap, ◌∙◌, arith}
+use Rattle.std.proofs.Common.{◌*◌, arith}
 use Rattle.maps.specs.Estate.{estate_place}
-use Rattle.maps.proofs.RowsAnswered.{tabulated_found, tabulated_off, tabulated_above}
+use Rattle.maps.proofs.RowsAnswered.{tabulated_found}
 use Rattle.maps.specs.RowsSound.{length_tabulated}
 use Rattle.maps.proofs.estate.EstateMap.place.Goals as goal
 

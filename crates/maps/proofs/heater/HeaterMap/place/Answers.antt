@@ -1,6 +1,5 @@
-use Rattle.std.proofs.Common.{Some, None, Ok, Err, sym, ap, ◌∙◌}
+use Rattle.std.proofs.Common.{Ok, sym, ap, ◌∙◌}
 use Rattle.std.proofs.lemmas.Result.{err_from_is_err_and}
-use Rattle.maps.specs.Rows.{answered}
 use Rattle.maps.specs.Heater.{heated}
 use Rattle.maps.proofs.RowsAnswered.{layer_refused, layer_found, answered_at}
 use Rattle.maps.proofs.heater.HeaterMap.place.Goals as goal

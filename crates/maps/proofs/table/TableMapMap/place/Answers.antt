@@ -1,7 +1,6 @@
-use Rattle.std.proofs.Common.{◌≡◌, ◌+◌, ◌*◌, ◌<◌, length, get_or, pos, sym, ap, ◌∙◌, arith, w32, SFits, to_z, of_z, rules}
+use Rattle.std.proofs.Common.{◌+◌, ◌*◌, get_or, pos, sym, arith, w32, SFits, rules}
 use Rattle.std.proofs.lemmas.Int.{to_z-of_z}
 use Rattle.std.proofs.lemmas.Bool.{cond-true, cond-false, lt-ltb, le-ltb}
-use Rattle.maps.specs.Table.{table_place}
 use Rattle.maps.proofs.RowsAnswered.{tabulated_found, tabulated_off, tabulated_above}
 use Rattle.maps.proofs.table.TableMapMap.place.Goals as goal
 

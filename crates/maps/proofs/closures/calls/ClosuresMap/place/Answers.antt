@@ -1,4 +1,4 @@
-use Rattle.std.proofs.Common.{is_some, Some, None, Ok, Err, sym, ap, ◌∙◌}
+use Rattle.std.proofs.Common.{is_some, Ok, sym, ap, ◌∙◌}
 use Rattle.std.proofs.lemmas.Result.{err_from_is_err_and}
 use Rattle.std.proofs.lemmas.Bool.{cond-true, cond-false}
 use Rattle.maps.proofs.RowsAnswered.{layer_refused, layer_found}
