@@ -1,5 +1,5 @@
 -- What an office may conclude, from what begin, advance and trace promise.
-use Rattle.std.proofs.Common.{◌≡◌, ℕ, zero, suc, ◌+◌, ◌<◌, ◌≤◌, Bool, true, false, cond, not, ◌&&◌, ◌||◌, eqb, ltb, ◌⊎◌, List, [], ◌∷◌, length, get_or, take, Some, None, Ok, Err, Option, sym, refl, ap, ◌∙◌, subst, inl, inr, ⊎_elim, arith}
+use Rattle.std.proofs.Common.{◌≡◌, ℕ, zero, suc, ◌<◌, ◌≤◌, true, false, ◌&&◌, ◌||◌, eqb, ltb, List, [], length, get_or, take, Some, None, Ok, Err, Option, sym, refl, ap, ◌∙◌, subst, ⊎_elim, arith}
 use lib.ListN.{length-map}
 use Rattle.std.specs.List.{ContainsAt as Has}
 use Rattle.std.proofs.lemmas.List.{take_all}
@@ -9,11 +9,10 @@ use Rattle.loads.specs.declared.charge.Charge.{Charge}
 use Rattle.loads.specs.Charge.{charge}
 use Rattle.front.specs.declared.arrival.Arrival.{Arrival}
 use Rattle.front.specs.declared.label.Label.{Label}
-use Rattle.front.specs.declared.leg.Leg.{Leg}
-use Rattle.front.specs.Walks.{Query, Valid, Drives, departure, empty_walk}
+use Rattle.front.specs.Walks.{Query, Valid, Drives, empty_walk}
 use Rattle.front.specs.Front.{FrontBegins, Unbeaten}
 use Rattle.front.specs.Legs.{Stored, places}
-use Rattle.front.specs.Labels.{arrivals, TracedWalk}
+use Rattle.front.specs.Labels.{arrivals}
 use Rattle.front.specs.Invariant.{Invariant}
 use Rattle.front.proofs.Walks.{departure_is_unbeaten}
 use Rattle.front.proofs.Legs.{legs_drive_their_places}
@@ -22,16 +21,14 @@ use Rattle.promises.specs.declared.candidate.Candidate.{Candidate}
 use Rattle.promises.specs.declared.standing.Progress.{Progress}
 use Rattle.promises.specs.declared.standing.Standing.{Standing}
 use Rattle.promises.specs.declared.standing.Standing.TheVariants.{Paused, Arrived, Ended, Full}
-use Rattle.promises.specs.Numbers.{Numbers, Tables, tables, AllUnchanged}
+use Rattle.promises.specs.Numbers.{Numbers, tables, AllUnchanged}
 use Rattle.promises.specs.StandsFor.{StandsFor, labels_of}
 use Rattle.promises.specs.Refuses.{Refuses}
-use Rattle.promises.specs.Begin.{begin_check, Begun}
 use Rattle.promises.specs.Advance.{advance_check, Advanced, AdvancedFor, AdvancePromise, StandingSays, NoneAt, SomeUnbeatenUnlisted}
 use Rattle.promises.proofs.Records.{take_stored, below_take}
 use Rattle.promises.proofs.ListedLabels.{listed_is_unbeaten, label_0_is_the_departure, first_at_the_goal_is_the_fastest}
-use Rattle.planner.specs.declared.answer.Answer.TheVariants.{Route, NoRoute, Refused}
-use Rattle.planner.specs.declared.answer.Answer.TheVariants as answers
-use Rattle.planner.specs.Answer.{AnsweredBy, MayConclude, FastestDrive, FrontHasMore, NoDrive, arrival_with}
+use Rattle.planner.specs.declared.answer.Answer.TheVariants.{Refused}
+use Rattle.planner.specs.Answer.{AnsweredBy, MayConclude, FastestDrive, FrontHasMore, NoDrive}
 use Rattle.planner.specs.Roads.{RoadsOf}
 
 pub begin_was_refused : {A : Type 0} (q : Query Charge) (n : ℕ) (check : Option Refusal) (f : Refusal) (same : Type 0) (P : A → Type 0) → Refuses check (Err f) same P → AnsweredBy check q n (Refused f)

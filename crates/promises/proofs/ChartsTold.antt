@@ -1,5 +1,5 @@
 -- A chart that does what it promises tells the least times.
-use Rattle.std.proofs.Common.{◌≡◌, ℕ, ◌<◌, ◌≤◌, Bool, true, false, cond, not, ◌&&◌, eqb, List, [], ◌∷◌, ◌++◌, length, get_or, take, drop, Some, None, Ok, Err, Option, Result, sym, refl, ap, ◌∙◌, subst, true≢false, arith}
+use Rattle.std.proofs.Common.{◌≡◌, ℕ, ◌<◌, ◌≤◌, Bool, true, false, cond, not, eqb, List, [], ◌∷◌, length, get_or, take, drop, Some, None, Ok, Err, Result, sym, refl, ap, ◌∙◌, subst, true≢false, arith}
 use Rattle.std.proofs.lemmas.List.{take_at}
 use Rattle.std.proofs.lemmas.Bool.{eqb-true, and_parts}
 use Rattle.refusals.specs.declared.refusal.Refusal.{Refusal}
@@ -11,7 +11,7 @@ use Rattle.front.specs.declared.label.Label.{Label}
 use Rattle.front.specs.Walks.{Query}
 use Rattle.front.specs.Invariant.{Invariant}
 use Rattle.charts.specs.declared.row.Row.{Row}
-use Rattle.charts.specs.Trips.{Trip, ValidTrip, profile_query}
+use Rattle.charts.specs.Trips.{profile_query}
 use Rattle.charts.specs.Chart.{chart, RowsTellLeastTimes, NoWalkWithoutARow}
 use Rattle.charts.specs.Theorems.{ChartTheorems}
 use Rattle.charts.proofs.Theorems.{theorems}

@@ -1,5 +1,5 @@
 -- What advance promises.
-use Rattle.std.specs.Prelude.{◌≡◌, ℕ, ◌+◌, ◌<◌, ◌≤◌, Bool, cond, not, ◌&&◌, ◌||◌, List, length, take, drop, Some, None, Option, Result, ◌==◌, ◌≢◌, nat_lt}
+use Rattle.std.specs.Prelude.{◌≡◌, ℕ, ◌+◌, ◌<◌, ◌≤◌, cond, not, ◌&&◌, ◌||◌, List, length, take, drop, Some, None, Option, Result, ◌==◌, ◌≢◌, nat_lt}
 use Rattle.std.specs.List.{ContainsAt as Has}
 use Rattle.refusals.specs.declared.refusal.Refusal.{Refusal}
 use Rattle.refusals.specs.declared.refusal.Refusal.TheVariants.{BudgetOutOfRange, NotBegun, NotAsBegun}

@@ -1,6 +1,6 @@
 -- An order by a number, and after it by another order, is a strict weak order.
-use Rattle.std.specs.Prelude.{◌≡◌, ℕ, ◌<◌, ◌≤◌, Bool, true, false, cond, ◌⊎◌, nat_lt, refl}
-use Rattle.std.proofs.Common.{sym, ap, ◌∙◌, inl, inr, ⊎_elim, true≢false, arith, ltb-true, ltb-false, lt-ltb, le-ltb}
+use Rattle.std.specs.Prelude.{◌≡◌, ℕ, ◌<◌, Bool, true, false, cond, ◌⊎◌, nat_lt, refl}
+use Rattle.std.proofs.Common.{sym, ◌∙◌, inl, inr, ⊎_elim, true≢false, arith, ltb-true, ltb-false, lt-ltb, le-ltb}
 use Rattle.std.specs.Cmp.{IsStrictWeakOrder}
 use Rattle.promises.specs.Order.{rising, falling}
 

@@ -1,6 +1,6 @@
 -- What holds of a search and its tables between two calls, for the query that it began with.
 -- Nothing on this page has to be believed: it carries the law from one call to the next.
-use Rattle.std.specs.Prelude.{◌≡◌, ℕ, ◌≤◌, true, List, map, length, take}
+use Rattle.std.specs.Prelude.{◌≡◌, ◌≤◌, true, List, map, length, take}
 use Rattle.std.specs.List.{ContainsAt as Has}
 use Rattle.front.specs.declared.label.Label.{Label}
 use Rattle.front.specs.Walks.{Query, Valid}

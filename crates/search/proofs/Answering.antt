@@ -1,5 +1,5 @@
 -- Calls that do what they promise keep the law.
-use Rattle.std.proofs.Common.{◌≡◌, ℕ, ◌<◌, ◌≤◌, Bool, true, false, cond, not, eqb, ltb, List, ◌∷◌, ◌++◌, length, take, drop, Some, None, Ok, Err, Option, Result, sym, refl, ap, ◌∙◌, subst, arith}
+use Rattle.std.proofs.Common.{◌≡◌, ℕ, ◌<◌, ◌≤◌, Bool, true, false, cond, not, eqb, List, ◌∷◌, ◌++◌, length, take, drop, Some, None, Ok, Err, Option, Result, sym, refl, ap, ◌∙◌, subst, arith}
 use Rattle.std.proofs.lemmas.List.{take_at}
 use Rattle.std.proofs.lemmas.Bool.{ne_eqb, eq-eqb, lt-ltb, le-ltb}
 use Rattle.refusals.specs.declared.refusal.Refusal.{Refusal}
@@ -22,7 +22,7 @@ use Rattle.promises.specs.StandsFor.{StandsFor}
 use Rattle.promises.specs.Refuses.{Refuses}
 use Rattle.promises.specs.Begin.{BeginPromise}
 use Rattle.promises.specs.Advance.{AdvancePromise, Advanced, advance_check}
-use Rattle.promises.specs.Trace.{TracePromise, TraceAnswered, TraceWritten, TraceTooShort, LegsOf, trace_check}
+use Rattle.promises.specs.Trace.{TracePromise, TraceAnswered, trace_check}
 use Rattle.promises.specs.Chart.{Charting, charting, ChartPromise, ChartAnswered, chart_check, begins_plain}
 use Rattle.promises.specs.Runs.{History, Run}
 use Rattle.promises.specs.Runs.Call.{begin, advance, trace}

@@ -1,14 +1,13 @@
 -- The search's tests, offers and order are those of the front.
-use Rattle.std.proofs.Common.{◌≡◌, ℕ, zero, suc, ◌+◌, ◌<◌, ◌≤◌, Bool, true, false, cond, ◌&&◌, ◌||◌, eqb, ltb, leb, ◌⊎◌, List, [], ◌∷◌, ◌++◌, map, length, get_or, take, Some, None, Ok, Err, Option, sym, refl, ap, ◌∙◌, subst, inl, inr, ⊎_elim, true≢false, arith}
+use Rattle.std.proofs.Common.{◌≡◌, ℕ, ◌<◌, ◌≤◌, Bool, true, false, cond, eqb, ltb, leb, ◌⊎◌, List, [], ◌∷◌, ◌++◌, map, length, get_or, Some, None, Option, sym, ap, ◌∙◌, subst, inl, inr, true≢false, arith}
 use lib.ListN.{length-map}
 use Rattle.std.specs.Option.{option_map}
-use Rattle.std.specs.List.{ContainsAt as Has, AllByRecursion as All}
-use Rattle.std.proofs.ByRecursion.{all-has, has_append_left, has_push}
+use Rattle.std.specs.List.{ContainsAt as Has}
+use Rattle.std.proofs.ByRecursion.{all-has}
 use Rattle.std.proofs.lemmas.List.{get_or-map, get_or_past}
 use Rattle.std.proofs.lemmas.Bool.{leb-true, le-leb, eqb-true, eq-eqb, lt-ltb, le-ltb, and_parts, and_from, or_cases, cond-true, cond-false, cases_lt}
-use Rattle.refusals.specs.declared.refusal.Refusal.TheVariants.{JunctionOffMap, PlaceAboveEleven}
 use Rattle.maps.specs.declared.road.Road.{Road}
-use Rattle.maps.specs.Rows.{Rows, at, answered, reply}
+use Rattle.maps.specs.Rows.{Rows, at}
 use Rattle.loads.specs.Meaning.{Meaning}
 use Rattle.loads.specs.Picked.{from_mapped}
 use Rattle.front.specs.declared.arrival.Arrival.{Arrival}
@@ -16,7 +15,7 @@ use Rattle.front.specs.declared.label.Label.{Label}
 use Rattle.front.specs.Walks.{Query, Valid, Leads}
 use Rattle.front.specs.OneRoad.{arrival_over_road, arrival_by_place}
 use Rattle.front.specs.Front.{Serves, Before, sooner, higher_rank, lower_junction}
-use Rattle.front.specs.Labels.{Served, arrivals}
+use Rattle.front.specs.Labels.{Served}
 use Rattle.front.specs.Invariant.{IsNext, Spreads, Thins}
 use Rattle.front.proofs.OneRoad.{arrival_by_place_leads, leads_to_arrival_by_place, leading_place_is_below_twelve}
 use Rattle.queue.specs.Heaps.{Least}

@@ -1,11 +1,10 @@
 -- The queue's calls, as steps of a search.
-use Rattle.std.proofs.Common.{◌≡◌, ℕ, zero, suc, ◌+◌, ◌<◌, ◌≤◌, min, Bool, true, false, ◌||◌, ◌⊎◌, List, [], ◌∷◌, ◌++◌, length, get_or, take, Some, None, Ok, Err, Option, Result, sym, refl, ap, ◌∙◌, subst, inl, inr, ⊎_elim, arith, MatchResult}
+use Rattle.std.proofs.Common.{◌≡◌, ℕ, zero, suc, ◌+◌, ◌<◌, ◌≤◌, Bool, true, false, ◌⊎◌, List, [], ◌∷◌, length, take, Some, None, Ok, Err, Option, Result, sym, refl, ap, ◌∙◌, subst, inl, inr, ⊎_elim, arith, MatchResult}
 use Rattle.std.specs.List.Sorted.{IsPermutation}
-use Rattle.std.specs.List.{ContainsAt as Has, AllByRecursion as All}
+use Rattle.std.specs.List.{ContainsAt as Has}
 use Rattle.std.proofs.lemmas.List.Sorted.{IsPermutation-sym}
 use Rattle.std.proofs.ByRecursion.{has_shuffled, all_shuffled}
-use Rattle.std.proofs.lemmas.List.{take_more, get_or-take, length-take}
-use Rattle.std.proofs.lemmas.Bool.{or_left, or_right, cases_order}
+use Rattle.std.proofs.lemmas.Bool.{cases_order}
 use Rattle.loads.specs.Meaning.{Meaning}
 use Rattle.front.specs.declared.label.Label.{Label}
 use Rattle.queue.specs.declared.heap.Heap.{Heap}
@@ -13,7 +12,7 @@ use Rattle.queue.specs.Heaps.{Heaped, HeapedFrom, Least}
 use Rattle.queue.specs.Waiting.{slots, waiting, OverSameSlice, InHeapOrder, Pushed, Popped}
 use Rattle.promises.specs.declared.candidate.Candidate.{Candidate}
 use Rattle.promises.specs.Order.{leaves_before}
-use Rattle.search.specs.Steps.{any, served_by, GrownBy, Dropped, Taken, EachServed}
+use Rattle.search.specs.Steps.{served_by, GrownBy, Dropped, Taken, EachServed}
 
 pub has_here : {X : Type 0} (x : X) (xs : List X) → Has (x ∷ xs) x
 has_here x xs = (0, omega arith, λ d. refl)

@@ -1,22 +1,20 @@
 -- One turn of an advance: what it lists, drops or leaves keeps the search standing.
-use Rattle.std.proofs.Common.{◌≡◌, ℕ, zero, suc, ◌+◌, ◌<◌, ◌≤◌, Bool, true, false, cond, eqb, ◌⊎◌, List, [], ◌∷◌, ◌++◌, map, length, get_or, take, drop, set, Some, None, Option, sym, refl, ap, ◌∙◌, subst, inl, inr, ⊎_elim, arith, length-set, MatchOption}
+use Rattle.std.proofs.Common.{◌≡◌, ℕ, ◌+◌, ◌<◌, ◌≤◌, Bool, true, false, eqb, ◌⊎◌, List, [], ◌∷◌, ◌++◌, length, get_or, take, drop, set, Some, None, Option, sym, refl, ap, ◌∙◌, subst, inl, inr, ⊎_elim, arith, length-set, MatchOption}
 use Rattle.std.specs.List.{ContainsAt as Has}
 use Rattle.std.proofs.ByRecursion.{has_push}
 use Rattle.std.proofs.lemmas.List.{length-take-le, take_more_set, take-set, drop-set-lt, get_or-set_same}
 use Rattle.std.proofs.lemmas.Bool.{eqb-true, eqb-false}
 use Rattle.maps.specs.Rows.{Rows}
 use Rattle.loads.specs.Meaning.{Meaning}
-use Rattle.front.specs.declared.arrival.Arrival.{Arrival}
 use Rattle.front.specs.declared.label.Label.{Label}
-use Rattle.front.specs.Walks.{Query, Valid, departure}
-use Rattle.front.specs.Front.{Serves, Unbeaten}
+use Rattle.front.specs.Walks.{Query}
 use Rattle.front.specs.Labels.{Served, arrivals}
-use Rattle.front.specs.Invariant.{IsNext, Spreads, Thins, Invariant}
+use Rattle.front.specs.Invariant.{IsNext, Spreads, Invariant}
 use Rattle.front.specs.Legs.{Stored}
 use Rattle.front.proofs.Serving.{serves_itself}
 use Rattle.front.proofs.Walks.{reached_is_a_load}
 use Rattle.front.proofs.NextCandidate.{next_candidate_is_reached, next_candidate_is_unbeaten, next_candidate_is_unlisted}
-use Rattle.front.proofs.Steps.{begins_with_the_empty_walk, listing_keeps_the_invariant, dropping_served_candidates_keeps_the_invariant}
+use Rattle.front.proofs.Steps.{listing_keeps_the_invariant, dropping_served_candidates_keeps_the_invariant}
 use Rattle.front.proofs.ListedLabels.{nothing_waits_so_the_front_is_listed}
 use Rattle.queue.specs.Heaps.{Heaped, Least}
 use Rattle.promises.specs.declared.candidate.Candidate.{Candidate}
@@ -24,13 +22,11 @@ use Rattle.search.specs.declared.turn.Turn.{Turn}
 use Rattle.search.specs.declared.turn.Turn.TheVariants as turn
 use Rattle.promises.specs.Numbers.{Numbers}
 use Rattle.promises.specs.Order.{leaves_before}
-use Rattle.search.specs.Steps.{served_by, candidate, offer, GrownBy, Dropped, Taken, EachServed}
+use Rattle.search.specs.Steps.{offer, GrownBy, Dropped, Taken, EachServed}
 use Rattle.promises.specs.StandsFor.{labels_of, StandsFor}
 use Rattle.search.specs.Turns.{Turned, NothingWaitsIfEnded, listed_by, TurnedFor, TurnSays, listed_turn, Lists}
-use Rattle.promises.specs.Numbers.{KeepsItsQuery, Tables, tables}
-use Rattle.promises.specs.Advance.{EveryUnbeatenListed, SomeUnbeatenUnlisted}
-use Rattle.promises.specs.Begin.{first_label}
-use Rattle.search.proofs.Queueing.{has_here, has_there, has_cons, has_none, heaped_zero}
+use Rattle.promises.specs.Numbers.{KeepsItsQuery, tables}
+use Rattle.search.proofs.Queueing.{has_there, has_cons, has_none, heaped_zero}
 use Rattle.search.proofs.OnTheFront.{dropped_thins, next, spreads, offer_leads}
 
 pub stands_again : {L : Type 0} (q : Query L) (s s' : Numbers) (ls ls' : List (Label L)) (ws ws' : List (Candidate L)) → StandsFor q s ls ws → KeepsItsQuery s s' → length ls' ≡ length ls → length ws' ≡ length ws → s'.listed ≤ length ls'

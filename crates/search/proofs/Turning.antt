@@ -1,5 +1,5 @@
 -- The turns of an advance, one after the other.
-use Rattle.std.proofs.Common.{◌≡◌, ℕ, ◌+◌, ◌-◌, ◌<◌, ◌≤◌, Bool, true, false, cond, not, ◌&&◌, ◌||◌, eqb, ltb, ◌⊎◌, List, length, take, drop, Some, None, Option, sym, refl, ap, ◌∙◌, subst, inl, inr, ⊎_elim, arith}
+use Rattle.std.proofs.Common.{◌≡◌, ℕ, ◌+◌, ◌-◌, ◌<◌, ◌≤◌, not, ◌&&◌, eqb, List, length, take, drop, None, sym, refl, ap, ◌∙◌, subst, ⊎_elim, arith}
 use Rattle.std.proofs.lemmas.List.{take-take, drop-drop}
 use Rattle.std.proofs.lemmas.Bool.{cases_lt, eqb-true, and_parts, not-false}
 use Rattle.maps.specs.Rows.{Rows}
@@ -14,9 +14,9 @@ use Rattle.promises.specs.declared.candidate.Candidate.{Candidate}
 use Rattle.promises.specs.declared.standing.Progress.{Progress}
 use Rattle.promises.specs.declared.standing.Standing.{Standing}
 use Rattle.promises.specs.declared.standing.Standing.TheVariants.{Paused, Arrived, Ended, Full}
-use Rattle.promises.specs.Numbers.{Numbers, KeepsItsQuery, Tables, tables}
+use Rattle.promises.specs.Numbers.{Numbers, KeepsItsQuery, tables}
 use Rattle.promises.specs.StandsFor.{StandsFor}
-use Rattle.promises.specs.Advance.{NoneAt, StandingSays, Advanced, AdvancedFor, advance_check}
+use Rattle.promises.specs.Advance.{NoneAt, StandingSays, Advanced, advance_check}
 use Rattle.promises.proofs.Records.{stored_back}
 use Rattle.search.specs.declared.turn.Turn.{Turn}
 use Rattle.search.specs.declared.turn.Turn.TheVariants as turn

@@ -1,7 +1,6 @@
 -- A trial of a charge over a heated map, once the heater's power and the capacity are accepted.
-use Rattle.std.proofs.Common.{◌≡◌, ℕ, ◌<◌, ◌≤◌, cond, List, length, Some, Option, Result, sym, refl, ap, ◌∙◌, subst, arith}
+use Rattle.std.proofs.Common.{◌≡◌, ℕ, ◌<◌, ◌≤◌, List, length, Some, Result, ap, ◌∙◌, arith}
 use Rattle.std.proofs.lemmas.Bool.Decides.{nat_tests}
-use Rattle.refusals.specs.declared.refusal.Refusal.{Refusal}
 use Rattle.refusals.specs.declared.refusal.Refusal.TheVariants.{HeaterPowerTooHigh, CapacityOutOfRange}
 use Rattle.maps.specs.Rows.{Rows}
 use Rattle.maps.specs.Heater.{heated_rows}

@@ -1,4 +1,4 @@
-use Rattle.std.proofs.Common.{◌≡◌, length, sym, ap, ◌∙◌}
+use Rattle.std.proofs.Common.{length, ap, ◌∙◌}
 use Rattle.planner.proofs.HeatedQuestion.{heater_refused, capacity_refused, answered_on_the_heated_map}
 use Rattle.planner.proofs.answer.answer_question.Goals as goal
 

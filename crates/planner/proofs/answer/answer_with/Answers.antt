@@ -1,12 +1,12 @@
-use Rattle.std.proofs.Common.{◌≡◌, ◌<◌, ◌≤◌, length, sym, refl, ap, ◌∙◌, subst, arith, rules}
+use Rattle.std.proofs.Common.{◌≡◌, ◌≤◌, length, refl, subst, arith, rules}
 use Rattle.loads.specs.Charge.{charge, charges}
 use Rattle.promises.specs.Numbers.{tables, AllUnchanged}
 use Rattle.promises.specs.Begin.{query, begin_check, Begun}
 use Rattle.promises.specs.Advance.{advance_check, Advanced}
 use Rattle.search.specs.SearchNumbers.{numbers}
-use Rattle.planner.specs.declared.answer.Answer.TheVariants.{Route, NoRoute, Full, Refused}
+use Rattle.planner.specs.declared.answer.Answer.TheVariants.{Route, NoRoute, Full}
 use Rattle.planner.specs.Answer.{FrontHasMore}
-use Rattle.planner.proofs.Concluding.{begin_was_refused, accepted, concluded, already_there, ended_means_no_drive, never_paused, full_means_more, arrived_inside, arrived_means_fastest, advance_is_accepted}
+use Rattle.planner.proofs.Concluding.{begin_was_refused, accepted, concluded, already_there, ended_means_no_drive, never_paused, full_means_more, arrived_means_fastest, advance_is_accepted}
 use Rattle.planner.proofs.answer.answer_with.Goals as goal
 
 pub returns-in-Err : goal.returns-in-Err

@@ -1,4 +1,4 @@
-use Rattle.std.proofs.Common.{◌≡◌, length, sym, ap, ◌∙◌}
+use Rattle.std.proofs.Common.{length, sym, ap, ◌∙◌}
 use Rattle.std.proofs.lemmas.Result.{err_from_is_err_and}
 use Rattle.walks.proofs.ChargedTrial.{power_refused, capacity_refused, charged_trial}
 use Rattle.walks.proofs.trial.try_charged_walk.Goals as goal

@@ -1,4 +1,4 @@
-use Rattle.std.proofs.Common.{◌≡◌, ◌+◌, ◌-◌, ◌≤◌, length, Ok, Err, sym, refl, ap, ◌∙◌, arith, rules}
+use Rattle.std.proofs.Common.{length, Ok, Err, sym, refl, ◌∙◌, arith, rules}
 use Rattle.promises.specs.Numbers.{tables}
 use Rattle.search.specs.SearchNumbers.{numbers}
 use Rattle.search.proofs.Turning.{no_turn_yet, lengths, one_turn_more, last_turn_arrived, last_turn_ended, last_turn_full, budget_used}

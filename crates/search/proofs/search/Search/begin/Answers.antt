@@ -1,6 +1,6 @@
-use Rattle.std.proofs.Common.{◌≡◌, ◌≤◌, Bool, true, cond, length, Ok, Err, sym, refl, ap, ◌∙◌, subst, arith, rules}
+use Rattle.std.proofs.Common.{◌≡◌, Bool, true, cond, length, Ok, Err, sym, refl, ap, arith, rules}
 use Rattle.std.proofs.lemmas.Bool.{eq-eqb, ne_eqb}
-use Rattle.front.specs.Walks.{Query, Valid}
+use Rattle.front.specs.Walks.{Valid}
 use Rattle.promises.specs.declared.standing.Standing.TheVariants.{Paused, Arrived}
 use Rattle.promises.specs.Numbers.{Numbers, tables, AllUnchanged}
 use Rattle.promises.specs.Order.{leaves_before}

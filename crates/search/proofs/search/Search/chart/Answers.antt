@@ -1,4 +1,4 @@
-use Rattle.std.proofs.Common.{◌≡◌, true, false, length, Ok, Err, sym, refl, ap, ◌∙◌, arith}
+use Rattle.std.proofs.Common.{true, false, Ok, Err, sym}
 use Rattle.refusals.specs.declared.refusal.Refusal.TheVariants.{NotBegun, NotAsBegun, NotPlainProfile, BufferTooShort}
 use Rattle.promises.specs.Chart.{charting}
 use Rattle.search.specs.SearchNumbers.{numbers}

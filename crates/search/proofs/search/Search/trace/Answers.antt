@@ -1,4 +1,4 @@
-use Rattle.std.proofs.Common.{◌≡◌, ◌+◌, ◌-◌, ◌<◌, ◌≤◌, length, Ok, Err, sym, refl, ap, ◌∙◌, arith, rules}
+use Rattle.std.proofs.Common.{◌≡◌, length, Ok, Err, rules}
 use Rattle.refusals.specs.declared.refusal.Refusal.TheVariants.{NotBegun, NotAsBegun, LabelNotListed, BufferTooShort}
 use Rattle.search.specs.SearchNumbers.{numbers}
 use Rattle.search.proofs.Answering.{trace_keeps, trace_refused, trace_not_begun, trace_not_as_begun, trace_not_listed, trace_passes, trace_too_short, trace_written}

@@ -1,4 +1,4 @@
-use Rattle.std.proofs.Common.{◌≡◌, ◌<◌, length, take, sym, refl, ap, ◌∙◌, arith, rules}
+use Rattle.std.proofs.Common.{◌<◌, refl, arith, rules}
 use Rattle.search.specs.SearchNumbers.{numbers}
 use Rattle.search.proofs.Stepping.{by_none, by_some, turn_ended, turn_full, turn_listed}
 use Rattle.search.proofs.search.Search.turn.Goals as goal

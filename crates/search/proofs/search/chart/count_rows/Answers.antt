@@ -1,4 +1,4 @@
-use Rattle.std.proofs.Common.{◌≡◌, ◌<◌, length, sym, refl, ap, ◌∙◌, arith}
+use Rattle.std.proofs.Common.{◌<◌, length, sym, ap, ◌∙◌, arith}
 use Rattle.search.proofs.ChartGrowth.{least_some, least_none, rows_none, count_some}
 use Rattle.search.proofs.search.chart.count_rows.Goals as goal
 use Rattle.search.proofs.search.chart.count_rows.Goals.{then-has_row, else-has_row}

@@ -1,4 +1,4 @@
-use Rattle.std.proofs.Common.{◌≡◌, ℕ, ◌+◌, ◌<◌, List, ◌++◌, length, drop, set, sym, refl, ap, ◌∙◌, arith, rules}
+use Rattle.std.proofs.Common.{◌≡◌, ℕ, ◌+◌, ◌<◌, List, ◌++◌, length, drop, sym, ap, ◌∙◌, arith, rules}
 use Rattle.charts.specs.declared.row.Row.{Row}
 use Rattle.search.proofs.ChartGrowth.{rows_at, least_some, least_none, rows_some, rows_none, count_some, roomy, written_on}
 use Rattle.search.proofs.search.chart.write_rows.Goals as goal

@@ -1,4 +1,4 @@
-use Rattle.std.proofs.Common.{◌≡◌, ◌+◌, ◌≤◌, length, sym, refl, ap, ◌∙◌, subst, arith, rules}
+use Rattle.std.proofs.Common.{◌+◌, ◌≤◌, length, sym, ap, subst, arith, rules}
 use Rattle.queue.specs.Waiting.{slots}
 use Rattle.search.specs.Steps.{offer}
 use Rattle.search.proofs.Queueing.{Filling, filling, filling_some, filling_skip, filled}

@@ -1,4 +1,4 @@
-use Rattle.std.proofs.Common.{◌≡◌, ◌+◌, ◌<◌, ◌≤◌, length, sym, refl, ap, ◌∙◌, arith}
+use Rattle.std.proofs.Common.{arith}
 use Rattle.search.proofs.WalkingBack.{roads_more, at_start, stuck}
 use Rattle.search.proofs.search.trace.count_roads.Goals as goal
 

@@ -1,4 +1,4 @@
-use Rattle.std.proofs.Common.{◌≡◌, ◌+◌, ◌<◌, ◌≤◌, List, length}
+use Rattle.std.proofs.Common.{◌≡◌, ◌+◌, ◌≤◌, List, length}
 use Rattle.front.specs.declared.leg.Leg.{Leg}
 use Rattle.front.specs.Labels.{Traces}
 use Rattle.search.proofs.search.trace.count_roads.Given as goal

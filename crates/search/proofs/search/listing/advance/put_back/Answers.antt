@@ -1,4 +1,4 @@
-use Rattle.std.proofs.Common.{◌≡◌, length, sym, refl, ap, ◌∙◌, subst, arith, rules}
+use Rattle.std.proofs.Common.{length, ap, arith, rules}
 use Rattle.search.proofs.Queueing.{put_back}
 use Rattle.search.proofs.search.listing.advance.put_back.Goals as goal
 

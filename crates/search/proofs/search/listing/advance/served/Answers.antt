@@ -1,4 +1,4 @@
-use Rattle.std.proofs.Common.{◌≡◌, ◌<◌, true, false, length, sym, refl, ap, ◌∙◌, arith}
+use Rattle.std.proofs.Common.{◌<◌, length, sym, ap, ◌∙◌, arith}
 use Rattle.search.specs.Steps.{label_serves}
 use Rattle.search.proofs.Scanning.{any_more, any_found}
 use Rattle.search.proofs.search.listing.advance.served.Goals as goal

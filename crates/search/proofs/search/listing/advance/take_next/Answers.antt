@@ -1,4 +1,4 @@
-use Rattle.std.proofs.Common.{◌≡◌, take, sym, refl, ap, ◌∙◌, subst, arith, rules}
+use Rattle.std.proofs.Common.{take, sym, arith, rules}
 use Rattle.search.proofs.Queueing.{dropping, dropping_one, took, took_none}
 use Rattle.search.proofs.search.listing.advance.take_next.Goals as goal
 
