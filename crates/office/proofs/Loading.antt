@@ -1,5 +1,5 @@
 -- The tables of an accepted road file load, and the answers on their map are the answers to the files.
-use Rattle.std.proofs.Common.{◌≡◌, ℕ, true, List, ℤ, is_ok, Some, None, Ok, Err, vec_items, Result, sym, refl, ap, ◌∙◌, subst, arith}
+use Rattle.std.proofs.Common.{◌≡◌, ℕ, true, List, ℤ, is_ok, None, Ok, Err, vec_items, Result, refl, arith}
 use Rattle.std.specs.Result.{result_err}
 use Rattle.refusals.specs.declared.refusal.Refusal.{Refusal}
 use Rattle.maps.specs.Table.{table_refusal, table_rows}

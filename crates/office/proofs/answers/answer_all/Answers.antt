@@ -14,12 +14,12 @@ returns-in_err-push g c = IfOk-from_err c.from_residual-in_err-push.result _ c.f
 
 pub loop-query-preserved : goal.loop-query-preserved
 loop-query-preserved g c = (
-  c.loop_query.invariant.0,
-  c.loop_query.invariant.1,
-  next_is_answered (g.M.Map.rows c.args.map) c.args.queries.now c.loop_query.query-index _ (vec_items c.loop_query.answers) (vec_items c.push.new.self) c.question_from.result c.answer_question.result (length c.deref-mut.result.now) (length c.deref-mut-in-loop-query.result.now) c.loop-query-test.true c.loop_query.invariant.2 c.question_from.ensures (c.deref-mut.ensures.len ∙ c.loop_query.invariant.0) (c.deref-mut-in-loop-query.ensures.len ∙ c.loop_query.invariant.1) c.answer_question.ensures.refused_by_the_first_failing_check_else_so c.in_ok-push.ensures.items,
+  c.loop-query.invariant.0,
+  c.loop-query.invariant.1,
+  next_is_answered (g.M.Map.rows c.args.map) c.args.queries.now c.loop-query.query-index _ (vec_items c.loop-query.answers) (vec_items c.push.new.self) c.question_from.result c.answer_question.result (length c.deref_mut.result.now) (length c.deref_mut-in-loop-query.result.now) c.loop-query-test.true c.loop-query.invariant.2 c.question_from.ensures (c.deref_mut.ensures.len ∙ c.loop-query.invariant.0) (c.deref_mut-in-loop-query.ensures.len ∙ c.loop-query.invariant.1) c.answer_question.ensures.refused_by_the_first_failing_check_else_so c.in_ok-push.ensures.items,
 )
 
 pub returns : goal.returns
 returns g c =
-    let all : take c.loop_query.query-index c.args.queries.now ≡ c.args.queries.now = take_all c.loop_query.query-index c.args.queries.now c.loop-query-test.false in
-    subst (λ (qs : List Query). EachAnswered (g.M.Map.rows c.args.map) qs (vec_items c.loop_query.answers)) all c.loop_query.invariant.2
+    let all : take c.loop-query.query-index c.args.queries.now ≡ c.args.queries.now = take_all c.loop-query.query-index c.args.queries.now c.loop-query-test.false in
+    subst (λ (qs : List Query). EachAnswered (g.M.Map.rows c.args.map) qs (vec_items c.loop-query.answers)) all c.loop-query.invariant.2

@@ -1,4 +1,4 @@
-use Rattle.std.proofs.Common.{◌≡◌, true, is_ok, vec_items, sym, ◌∙◌}
+use Rattle.std.proofs.Common.{◌≡◌, true, is_ok, vec_items, ◌∙◌}
 use Rattle.std.proofs.lemmas.Bool.{cond-true}
 use Rattle.office.proofs.Loading.{tables_pass, accepted_without_refusal, answers_to_the_files}
 use Rattle.office.proofs.answers.answer_files.Goals as goal
