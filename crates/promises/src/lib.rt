@@ -7,6 +7,7 @@ ghost use Rattle.promises.specs.Law.{Law};
 pub mod candidate;
 pub mod order;
 pub mod standing;
+pub mod trip;
 
 /// Every run of calls of a search over loads of one type keeps the law.
 pub fn every_run_keeps_the_law<L>()
