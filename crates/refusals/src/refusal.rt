@@ -3,49 +3,83 @@
 ghost use Rattle.std.specs.Prelude.{◌≡◌};
 ghost use Rattle.refusals.specs.Numbers.{number};
 
-use std::fmt;
+use thiserror::Error;
 
 /// Why a call was refused. A refused call leaves everything as it found it.
-#[derive(Clone, Copy, PartialEq, Eq, Debug)]
+#[derive(Clone, Copy, PartialEq, Eq, Debug, Error)]
 pub enum Refusal {
+    #[error("The start is not a junction of the map.")]
     StartOffMap,
+    #[error("The goal is not a junction of the map.")]
     GoalOffMap,
+    #[error("The van cannot carry the load at the start.")]
     StartLoadNotAdmitted,
+    #[error("The deadline is above 999,999 seconds.")]
     DeadlineTooLate,
+    #[error("The label table has no record, or more than 65,535.")]
     LabelTableSize,
+    #[error("The waiting table has under twelve records a label.")]
     WaitingTableTooShort,
+    #[error("The budget is not from 1 to 65,535.")]
     BudgetOutOfRange,
+    #[error("The capacity is not from 1 to 100,000 watt-hours.")]
     CapacityOutOfRange,
+    #[error("The junction is not one of the map.")]
     JunctionOffMap,
+    #[error("The place is above 11.")]
     PlaceAboveEleven,
+    #[error("The heater's power is above 6,000 watts.")]
     HeaterPowerTooHigh,
+    #[error("A road's time is not from 1 to 7,200 seconds.")]
     RoadTimeOutOfRange,
+    #[error("A road's draw is not within 100,000 watt-hours.")]
     RoadDrawOutOfRange,
+    #[error("The tables' lengths disagree, or n is above 9,600.")]
     TableLengthsDisagree,
+    #[error("A junction's count of roads is above 12.")]
     CountAboveTwelve,
+    #[error("A road leads to no junction of the map.")]
     HeadOffMap,
+    #[error("The estate has no junction, or more than 9,600.")]
     EstateSizeOutOfRange,
+    #[error("The estate's flat draw or rise is above 50,000.")]
     EstateDrawTooHigh,
     /// Holds the count of records that the buffer would need.
+    #[error("The buffer has too few records. It would need {0}.")]
     BufferTooShort(u32),
+    #[error("The first line does not hold the file's names.")]
     WrongNames,
+    #[error("The line has a field too few, too many or empty.")]
     FieldCountDiffers,
+    #[error("The field is not a value.")]
     NotAValue,
+    #[error("The tables have no room for the junction.")]
     JunctionBeyondRoom,
+    #[error("The junction has twelve roads already.")]
     ThirteenthRoad,
+    #[error("The line is not ended.")]
     LineNotEnded,
+    #[error("The file is unreadable, or over 32,768 bytes.")]
     FileUnreadable,
+    #[error("The search has not begun.")]
     NotBegun,
+    #[error("The junctions or a table are not as at the start.")]
     NotAsBegun,
+    #[error("The label is not listed.")]
     LabelNotListed,
+    #[error("The place is shut already.")]
     PlaceAlreadyShut,
+    #[error("The place is not shut.")]
     PlaceNotShut,
+    #[error("Sixty-four places are shut already.")]
     SixtyFourShut,
+    #[error("The search did not begin with the plain profile.")]
     NotPlainProfile,
 }
 
 impl Refusal {
     /// The refusal's number: one for each case, and no two alike.
+    // One variant holds a count, so the numbers cannot stand as discriminants and be read by a cast.
     pub fn number(self) -> u8
         ensures { result ≡ number self }
     {
@@ -83,55 +117,6 @@ impl Refusal {
             Refusal::PlaceNotShut => 35,
             Refusal::SixtyFourShut => 36,
             Refusal::NotPlainProfile => 37,
-        }
-    }
-
-    fn sentence(self) -> &'static str {
-        match self {
-            Refusal::StartOffMap => "The start is not a junction of the map.",
-            Refusal::GoalOffMap => "The goal is not a junction of the map.",
-            Refusal::StartLoadNotAdmitted => "The van cannot carry the load at the start.",
-            Refusal::DeadlineTooLate => "The deadline is above 999,999 seconds.",
-            Refusal::LabelTableSize => "The label table has no record, or more than 65,535.",
-            Refusal::WaitingTableTooShort => "The waiting table has under twelve records a label.",
-            Refusal::BudgetOutOfRange => "The budget is not from 1 to 65,535.",
-            Refusal::CapacityOutOfRange => "The capacity is not from 1 to 100,000 watt-hours.",
-            Refusal::JunctionOffMap => "The junction is not one of the map.",
-            Refusal::PlaceAboveEleven => "The place is above 11.",
-            Refusal::HeaterPowerTooHigh => "The heater's power is above 6,000 watts.",
-            Refusal::RoadTimeOutOfRange => "A road's time is not from 1 to 7,200 seconds.",
-            Refusal::RoadDrawOutOfRange => "A road's draw is not within 100,000 watt-hours.",
-            Refusal::TableLengthsDisagree => "The tables' lengths disagree, or n is above 9,600.",
-            Refusal::CountAboveTwelve => "A junction's count of roads is above 12.",
-            Refusal::HeadOffMap => "A road leads to no junction of the map.",
-            Refusal::EstateSizeOutOfRange => "The estate has no junction, or more than 9,600.",
-            Refusal::EstateDrawTooHigh => "The estate's flat draw or rise is above 50,000.",
-            Refusal::BufferTooShort(_) => "The buffer has too few records.",
-            Refusal::WrongNames => "The first line does not hold the file's names.",
-            Refusal::FieldCountDiffers => "The line has a field too few, too many or empty.",
-            Refusal::NotAValue => "The field is not a value.",
-            Refusal::JunctionBeyondRoom => "The tables have no room for the junction.",
-            Refusal::ThirteenthRoad => "The junction has twelve roads already.",
-            Refusal::LineNotEnded => "The line is not ended.",
-            Refusal::FileUnreadable => "The file is unreadable, or over 32,768 bytes.",
-            Refusal::NotBegun => "The search has not begun.",
-            Refusal::NotAsBegun => "The junctions or a table are not as at the start.",
-            Refusal::LabelNotListed => "The label is not listed.",
-            Refusal::PlaceAlreadyShut => "The place is shut already.",
-            Refusal::PlaceNotShut => "The place is not shut.",
-            Refusal::SixtyFourShut => "Sixty-four places are shut already.",
-            Refusal::NotPlainProfile => "The search did not begin with the plain profile.",
-        }
-    }
-}
-
-/// One sentence a case; the sentence of a buffer that is too short ends with the count needed.
-impl fmt::Display for Refusal {
-    fn fmt<W: fmt::Write>(&self, f: &mut fmt::Formatter<W>) -> fmt::Result {
-        f.write_str(self.sentence())?;
-        match *self {
-            Refusal::BufferTooShort(needed) => write!(f, " It would need {needed}."),
-            _ => Ok(()),
         }
     }
 }
