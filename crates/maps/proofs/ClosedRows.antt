@@ -2,10 +2,9 @@
 use Rattle.std.proofs.Common.{◌≡◌, ℕ, ◌<◌, ◌≤◌, true, cond, not, ◌&&◌, ◌||◌, ◌⊎◌, List, length, None, Option, sym, refl, ap, ◌∙◌, inl, inr, arith}
 use Rattle.std.proofs.lemmas.Bool.{cases_lt, cond-true, cond-false, eq-eqb, and_from, or_left}
 use Rattle.maps.specs.declared.road.Road.{Road}
-use Rattle.maps.specs.declared.closures.Entry.{Entry}
 use Rattle.maps.specs.Rows.{Rows, at, layered}
 use Rattle.maps.specs.RowsSound.{at_tabulated, at_past, at_beyond, row_length, length_layered}
-use Rattle.maps.specs.Entries.{shut_at}
+use Rattle.maps.specs.Entries.{Entry, shut_at}
 use Rattle.maps.specs.Closures.{open_place, open_rows, same_place, OneMoreShut, OneLessShut, OnePlaceChanged}
 
 at_layered : (g : ℕ → ℕ → Option Road → Option Road) (rows : Rows) (v k : ℕ) → v < length rows → k < 12 → at (layered g rows) v k ≡ g v k (at rows v k)

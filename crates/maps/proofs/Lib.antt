@@ -1,3 +1,5 @@
 pub mod RowsAnswered
 pub mod Shutting
 pub mod ClosedRows
+mod Tested
+pub mod FailingAlike

@@ -4,7 +4,6 @@ use Rattle.std.proofs.lemmas.Bool.{cases_lt, le-ltb}
 use Rattle.std.proofs.lemmas.Bool.Decides.{nat_tests}
 use Rattle.maps.specs.declared.road.Road.{Road}
 use Rattle.refusals.specs.declared.refusal.Refusal.{Refusal}
-use Rattle.refusals.specs.declared.refusal.Refusal.TheVariants.{JunctionOffMap, PlaceAboveEleven}
 use Rattle.maps.specs.RowsSound.{length_tabulated, at_tabulated, at_past, at_beyond}
 use Rattle.maps.specs.Rows.{Rows, at, Sound, reply, answered, tabulated, layered}
 
@@ -52,18 +51,6 @@ tabulated_found n f v k o p q e = ap Ok e ∙ (inside (f v k) ∙ sym (answered_
   where
     inside : (x : Option Road) → Ok x ≡ reply n v k x
     inside x = grind (arith, nat_tests)
-
-pub tabulated_off : (n : ℕ) (f : ℕ → ℕ → Option Road) (v k : ℕ) → n ≤ v → Err JunctionOffMap ≡ answered (tabulated n f) v k
-tabulated_off n f v k p = outside (f v k) ∙ sym (answered_tabulated n f v k)
-  where
-    outside : (x : Option Road) → Err JunctionOffMap ≡ reply n v k x
-    outside x = grind (arith, nat_tests)
-
-pub tabulated_above : (n : ℕ) (f : ℕ → ℕ → Option Road) (v k : ℕ) → v < n → 12 ≤ k → Err PlaceAboveEleven ≡ answered (tabulated n f) v k
-tabulated_above n f v k p q = outside (f v k) ∙ sym (answered_tabulated n f v k)
-  where
-    outside : (x : Option Road) → Err PlaceAboveEleven ≡ reply n v k x
-    outside x = grind (arith, nat_tests)
 
 -- a refused question asks of no place, so no road is there
 pub refused_place_holds_no_road : (rows : Rows) (v k : ℕ) (e : Refusal) → Sound rows → Err e ≡ answered rows v k → at rows v k ≡ None

@@ -1,11 +1,11 @@
 -- Closures: a shut place is empty, and all others are as on the map below.
-use Rattle.std.specs.Prelude.{◌≡◌, ℕ, ◌+◌, Bool, false, cond, not, ◌&&◌, ◌||◌, List, length, Some, None, Option, ◌==◌, nat_lt}
+use Rattle.std.specs.Prelude.{◌≡◌, ℕ, ◌+◌, Bool, false, cond, not, ◌&&◌, ◌||◌, List, length, Some, None, Option, ◌==◌}
 use Rattle.refusals.specs.declared.refusal.Refusal.{Refusal}
-use Rattle.refusals.specs.declared.refusal.Refusal.TheVariants.{JunctionOffMap, PlaceAboveEleven, PlaceAlreadyShut, PlaceNotShut, SixtyFourShut}
+use Rattle.refusals.specs.declared.refusal.Refusal.TheVariants.{PlaceAlreadyShut, PlaceNotShut, SixtyFourShut}
 use Rattle.maps.specs.declared.road.Road.{Road}
-use Rattle.maps.specs.declared.closures.Entry.{Entry}
-use Rattle.maps.specs.Rows.{Rows, at, layered}
-use Rattle.maps.specs.Entries.{shut_at, shut_count}
+use Rattle.maps.specs.Rows.{Rows, at, layered, place_refusal}
+use Rattle.maps.specs.FirstFailure.{or_else}
+use Rattle.maps.specs.Entries.{Entry, shut_at, shut_count}
 
 abbrev pub open_place : List Entry → ℕ → ℕ → Option Road → Option Road
 open_place es v k o = cond (shut_at es v k) None o
@@ -17,16 +17,14 @@ open_rows es rows = layered (open_place es) rows
 -- the first check that a shut of place k of junction v fails, on a map of n junctions
 abbrev pub shut_refusal : ℕ → List Entry → ℕ → ℕ → Option Refusal
 shut_refusal n es v k =
-    cond (not (nat_lt v n)) (Some JunctionOffMap)
-    (cond (not (nat_lt k 12)) (Some PlaceAboveEleven)
+    or_else (place_refusal n v k)
     (cond (shut_at es v k) (Some PlaceAlreadyShut)
-    (cond (shut_count es == 64) (Some SixtyFourShut) None)))
+    (cond (shut_count es == 64) (Some SixtyFourShut) None))
 
 abbrev pub reopen_refusal : ℕ → List Entry → ℕ → ℕ → Option Refusal
 reopen_refusal n es v k =
-    cond (not (nat_lt v n)) (Some JunctionOffMap)
-    (cond (not (nat_lt k 12)) (Some PlaceAboveEleven)
-    (cond (not (shut_at es v k)) (Some PlaceNotShut) None))
+    or_else (place_refusal n v k)
+    (cond (not (shut_at es v k)) (Some PlaceNotShut) None)
 
 abbrev pub same_place : ℕ → ℕ → ℕ → ℕ → Bool
 same_place v k v' k' = v == v' && k == k'

@@ -1,11 +1,10 @@
 -- Closures over a sound map give a sound map.
 use Rattle.std.specs.Prelude.{◌≡◌, Bool, true, false, cond, List, Some, None, Option, refl}
 use Rattle.maps.specs.declared.road.Road.{Road}
-use Rattle.maps.specs.declared.closures.Entry.{Entry}
 use Rattle.maps.specs.Rows.{Rows, at, Sound}
 use Rattle.maps.specs.SomeRoad.{none_some}
 use Rattle.maps.specs.RowsSound.{sound_layered}
-use Rattle.maps.specs.Entries.{shut_at}
+use Rattle.maps.specs.Entries.{Entry, shut_at}
 use Rattle.maps.specs.Closures.{open_rows}
 
 left_open : (b : Bool) (o : Option Road) (e : Road) → cond b None o ≡ Some e → o ≡ Some e

@@ -1,5 +1,5 @@
 -- What a map means: the list of its rows, one for each junction, each of twelve places.
-use Rattle.std.specs.Prelude.{◌≡◌, ℕ, ◌<◌, ◌≤◌, cond, List, [], map, length, pos, negsuc, ◌≤ℤ◌, Some, None, Ok, Err, Option, Result, nat_lt, slice_index_or}
+use Rattle.std.specs.Prelude.{◌≡◌, ℕ, ◌<◌, ◌≤◌, cond, not, List, [], map, length, pos, negsuc, ◌≤ℤ◌, Some, None, Ok, Err, Option, Result, nat_lt, slice_index_or}
 use Rattle.std.specs.List.{range_with_len}
 use Rattle.maps.specs.declared.road.Road.{Road}
 use Rattle.refusals.specs.declared.refusal.Refusal.{Refusal}
@@ -25,6 +25,10 @@ pub record Sound (rows : Rows) : Type 0 where
   pub few : length rows ≤ 9600
   pub twelve : (v : ℕ) → v < length rows → length (slice_index_or rows v []) ≡ 12
   pub fits : (v k : ℕ) (e : Road) → at rows v k ≡ Some e → Fits (length rows) e
+
+-- the first check that a question of place k of junction v fails, on a map of n junctions
+abbrev pub place_refusal : ℕ → ℕ → ℕ → Option Refusal
+place_refusal n v k = cond (not (nat_lt v n)) (Some JunctionOffMap) (cond (not (nat_lt k 12)) (Some PlaceAboveEleven) None)
 
 -- the place question of a map of n junctions, where o is what is at the place
 abbrev pub reply : ℕ → ℕ → ℕ → Option Road → Result (Option Road) Refusal

@@ -1,6 +1,7 @@
 -- The table map: what its tables mean, and the checks that they pass.
 use Rattle.std.specs.Prelude.{ℕ, ◌+◌, ◌*◌, ◌/◌, ◌%◌, cond, not, ◌||◌, List, length, ℤ, pos, negsuc, Some, None, Option, ◌==◌, int_lt, nat_lt, slice_index, slice_index_or}
 use Rattle.maps.specs.declared.road.Road.{Road}
+use Rattle.maps.specs.declared.table.Tables.{Tables}
 use Rattle.refusals.specs.declared.refusal.Refusal.{Refusal}
 use Rattle.refusals.specs.declared.refusal.Refusal.TheVariants.{TableLengthsDisagree, CountAboveTwelve, HeadOffMap, RoadTimeOutOfRange, RoadDrawOutOfRange}
 use Rattle.maps.specs.Rows.{Rows, tabulated}
@@ -42,3 +43,6 @@ table_refusal counts heads times draws =
     or_else (lengths_fault counts heads times draws)
     (or_else (first_failure (count_fault counts) (length counts))
     (first_failure (entry_fault counts heads times draws) (12 * length counts)))
+
+abbrev pub tables_refusal : Tables → Option Refusal
+tables_refusal t = table_refusal t.counts.now t.heads.now t.times.now t.draws.now

@@ -3,8 +3,8 @@ ghost use Rattle.std.specs.Prelude.{◌≡◌, ◌*◌, ◌<◌, ◌≤◌, Some
 ghost use Rattle.maps.specs.Estate.{estate_rows, estate_place, estate_refusal};
 ghost use Rattle.maps.specs.EstateSound.{estate_sound};
 
-use crate::Map;
 use crate::road::Road;
+use crate::{Map, check_place};
 use refusals::refusal::Refusal;
 
 /// A map of `width * height` junctions: junction v is in row v / width and column v % width, and the
@@ -34,7 +34,7 @@ impl Estate {
             (λ m. (estate_refusal width height seconds flat rise ≡ None) × (m.width ≡ width) × (m.height ≡ height) × (m.seconds ≡ seconds) × (m.flat ≡ flat) × (m.rise ≡ rise))
             (λ e. estate_refusal width height seconds flat rise ≡ Some e) }
     {
-        if width == 0 || height == 0 || width as u64 * height as u64 > 9_600 {
+        if width == 0 || height == 0 || u64::from(width) * u64::from(height) > 9_600 {
             return Err(Refusal::EstateSizeOutOfRange);
         }
         if seconds == 0 || seconds > 7_200 {
@@ -94,12 +94,7 @@ impl Map for Estate {
     }
 
     fn place(&self, junction: u32, place: u32) -> Result<Option<Road>, Refusal> {
-        if junction >= self.junctions() {
-            return Err(Refusal::JunctionOffMap);
-        }
-        if place > 11 {
-            return Err(Refusal::PlaceAboveEleven);
-        }
+        check_place(self.junctions(), junction, place)?;
         Ok(self.at(junction, place))
     }
 }

@@ -41,15 +41,7 @@ fn heat(power: u32, road: Road) -> Option<Road>
 {
     let extra = (power * road.seconds + 3_599) / 3_600;
     let draw = road.draw + extra as i32;
-    if draw <= 100_000 {
-        Some(Road {
-            head: road.head,
-            seconds: road.seconds,
-            draw,
-        })
-    } else {
-        None
-    }
+    (draw <= 100_000).then_some(Road { draw, ..road })
 }
 
 impl<M: Map + Drop> Heater<M> {
@@ -71,9 +63,7 @@ impl<M: Map> Map for Heater<M> {
     }
 
     fn place(&self, junction: u32, place: u32) -> Result<Option<Road>, Refusal> {
-        match self.below.place(junction, place)? {
-            None => Ok(None),
-            Some(road) => Ok(heat(self.power.watts, road)),
-        }
+        let road = self.below.place(junction, place)?;
+        Ok(road.and_then(|road| heat(self.power.watts, road)))
     }
 }

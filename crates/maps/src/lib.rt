@@ -1,8 +1,9 @@
 //! Road maps: junctions, each with twelve places that are empty or hold one road.
 #![tactic(auto)]
 
-ghost use Rattle.std.specs.Prelude.{◌≡◌, length};
-ghost use Rattle.maps.specs.Rows.{Rows, Sound, answered};
+ghost use Rattle.std.specs.Prelude.{◌≡◌, ◌<◌, length, IfOk};
+ghost use Rattle.std.specs.Result.{result_err};
+ghost use Rattle.maps.specs.Rows.{Rows, Sound, answered, place_refusal};
 
 use refusals::refusal::Refusal;
 use road::Road;
@@ -28,4 +29,18 @@ pub trait Map {
     /// What is at a place of a junction; refuses a junction off the map, then a place above 11.
     fn place(&self, junction: u32, place: u32) -> Result<Option<Road>, Refusal>
         ensures { result ≡ answered (rows self.now) junction place };
+}
+
+// Refuses a junction that is none of so many, then a place above 11.
+fn check_place(junctions: u32, junction: u32, place: u32) -> Result<(), Refusal>
+    ensures refused_by_the_first_failing_check { result_err result ≡ place_refusal junctions junction place }
+    ensures accepted_on_the_map { IfOk result (λ _. (junction < junctions) × (place < 12)) }
+{
+    if junction >= junctions {
+        return Err(Refusal::JunctionOffMap);
+    }
+    if place > 11 {
+        return Err(Refusal::PlaceAboveEleven);
+    }
+    Ok(())
 }

@@ -1,147 +1,169 @@
 //! The table map: roads read from lent tables, one row of twelve entries for each junction.
-ghost use Rattle.std.specs.Prelude.{◌≡◌, ◌*◌, ◌≤◌, false, [], length, is_some, is_ok, if◌then◌else◌};
+ghost use Rattle.std.specs.Prelude.{◌≡◌, ◌*◌, ◌<◌, ◌≤◌, false, None, [], length, is_some, is_ok, if◌then◌else◌, nat_lt, slice_index, slice_index_or, pos, MatchResult};
+ghost use Rattle.std.specs.List.{list_any};
 ghost use Rattle.std.specs.Result.{result_err};
 ghost use Rattle.maps.specs.FirstFailure.{first_failure};
-ghost use Rattle.maps.specs.Table.{table_rows, table_refusal, count_fault, entry_fault, road_fault};
+ghost use Rattle.maps.specs.Table.{table_rows, tables_refusal, lengths_fault, count_fault, entry_fault, road_fault};
 ghost use Rattle.maps.specs.TableSound.{table_sound};
 
-use crate::Map;
 use crate::road::Road;
+use crate::{Map, check_place};
 use refusals::refusal::Refusal;
 
-/// A map over four tables: place `k` of junction `v` is entry `12 * v + k` where `k` is below the
-/// junction's count, and is empty otherwise. The tables were checked when they were loaded.
+// The tables are lent as slices, since no heap is used: a table of records would have to be copied into.
+/// Four tables that make a map: place `k` of junction `v` is entry `12 * v + k` of the last three where
+/// `k` is below the junction's count, and is empty otherwise.
+#[derive(Clone, Copy)]
+pub struct Tables<'a> {
+    pub counts: &'a [u32],
+    pub heads: &'a [u32],
+    pub times: &'a [u32],
+    pub draws: &'a [i32],
+}
+
+/// A map over four tables, which were checked when they were loaded.
 #[derive(Clone, Copy)]
 pub struct TableMap<'a> {
-    counts: &'a [u32],
-    heads: &'a [u32],
-    times: &'a [u32],
-    draws: &'a [i32],
-    ghost checked: { is_some (table_refusal counts.now heads.now times.now draws.now) ≡ false },
+    tables: Tables<'a>,
+    ghost checked: { is_some (tables_refusal tables) ≡ false },
 }
 
-// What is wrong with a road of a map of `n` junctions.
-fn fault(n: usize, head: u32, seconds: u32, draw: i32) -> Option<Refusal>
-    ensures { result ≡ road_fault n head seconds draw }
-{
-    if head as usize >= n {
-        return Some(Refusal::HeadOffMap);
+impl Road {
+    // Whether the road may stand on a map of so many junctions.
+    fn check(self, junctions: usize) -> Result<(), Refusal>
+        ensures { result_err result ≡ road_fault junctions self.head self.seconds self.draw }
+    {
+        if self.head as usize >= junctions {
+            return Err(Refusal::HeadOffMap);
+        }
+        if !(1..=7_200).contains(&self.seconds) {
+            return Err(Refusal::RoadTimeOutOfRange);
+        }
+        if !(-100_000..=100_000).contains(&self.draw) {
+            return Err(Refusal::RoadDrawOutOfRange);
+        }
+        Ok(())
     }
-    if seconds == 0 || seconds > 7_200 {
-        return Some(Refusal::RoadTimeOutOfRange);
-    }
-    if draw < -100_000 || draw > 100_000 {
-        return Some(Refusal::RoadDrawOutOfRange);
-    }
-    None
 }
 
-fn first_count_fault(counts: &[u32]) -> Option<Refusal>
-    ensures { result ≡ first_failure (count_fault counts.now) (length counts.now) }
+// Whether a junction has more than twelve roads.
+fn any_above_twelve(counts: &[u32]) -> bool
+    ensures { result ≡ list_any (nat_lt 12) counts.now }
 {
-    for count in counts {
-        if *count > 12 {
-            return Some(Refusal::CountAboveTwelve);
+    counts.iter().any(|count| *count > 12)
+}
+
+impl Tables<'_> {
+    fn check_lengths(self) -> Result<(), Refusal>
+        ensures { result_err result ≡ lengths_fault self.entry.counts.now self.entry.heads.now self.entry.times.now self.entry.draws.now }
+    {
+        let n = self.counts.len();
+        if n > 9_600
+            || self.heads.len() != 12 * n
+            || self.times.len() != 12 * n
+            || self.draws.len() != 12 * n
+        {
+            return Err(Refusal::TableLengthsDisagree);
+        }
+        Ok(())
+    }
+
+    fn check_counts(self) -> Result<(), Refusal>
+        ensures { result_err result ≡ first_failure (count_fault self.entry.counts.now) (length self.entry.counts.now) }
+    {
+        if any_above_twelve(self.counts) {
+            return Err(Refusal::CountAboveTwelve);
+        }
+        Ok(())
+    }
+
+    // What stands at an entry that is below its junction's count.
+    fn road(self, entry: usize) -> Road
+        requires within_the_heads { entry < length self.heads.now }
+        requires within_the_times { entry < length self.times.now }
+        requires within_the_draws { entry < length self.draws.now }
+        ensures { result ≡ record { head = slice_index self.entry.heads.now entry; seconds = slice_index self.entry.times.now entry; draw = slice_index_or self.entry.draws.now entry (pos 0) } }
+    {
+        Road {
+            head: self.heads[entry],
+            seconds: self.times[entry],
+            draw: self.draws[entry],
         }
     }
-    None
-}
 
-fn first_entry_fault(counts: &[u32], heads: &[u32], times: &[u32], draws: &[i32]) -> Option<Refusal>
-    requires { (length counts.now ≤ 9600) × ((length heads.now ≡ 12 * length counts.now) × ((length times.now ≡ 12 * length counts.now) × (length draws.now ≡ 12 * length counts.now))) }
-    ensures { result ≡ first_failure (entry_fault counts.now heads.now times.now draws.now) (12 * length counts.now) }
-{
-    for i in 0..12 * counts.len() {
-        if i % 12 < counts[i / 12] as usize {
-            if let Some(refusal) = fault(counts.len(), heads[i], times[i], draws[i]) {
-                return Some(refusal);
+    // Checks every road, in the order of the entries.
+    fn check_roads(self) -> Result<(), Refusal>
+        requires { lengths_fault self.counts.now self.heads.now self.times.now self.draws.now ≡ None }
+        ensures { result_err result ≡ first_failure (entry_fault self.entry.counts.now self.entry.heads.now self.entry.times.now self.entry.draws.now) (12 * length self.entry.counts.now) }
+    {
+        for entry in 0..12 * self.counts.len() {
+            if entry % 12 < self.counts[entry / 12] as usize {
+                self.road(entry).check(self.counts.len())?;
             }
         }
+        Ok(())
     }
-    None
-}
 
-// The first check that the tables fail: their lengths, then every count, then every road in entry order.
-fn check(counts: &[u32], heads: &[u32], times: &[u32], draws: &[i32]) -> Result<(), Refusal>
-    ensures { result_err result ≡ table_refusal counts.now heads.now times.now draws.now }
-{
-    let n = counts.len();
-    if n > 9_600 || heads.len() != 12 * n || times.len() != 12 * n || draws.len() != 12 * n {
-        return Err(Refusal::TableLengthsDisagree);
+    // The first check that the tables fail: their lengths, then every count, then every road.
+    fn check(self) -> Result<(), Refusal>
+        ensures { result_err result ≡ tables_refusal self.entry }
+    {
+        self.check_lengths()?;
+        self.check_counts()?;
+        self.check_roads()
     }
-    if let Some(refusal) = first_count_fault(counts) {
-        return Err(refusal);
-    }
-    if let Some(refusal) = first_entry_fault(counts, heads, times, draws) {
-        return Err(refusal);
-    }
-    Ok(())
 }
 
 impl<'a> TableMap<'a> {
+    /// The map over these tables. Refuses tables that fail a check: their lengths, then every count, then every
+    /// road in the order of the entries.
+    pub fn new(tables: Tables<'a>) -> Result<TableMap<'a>, Refusal>
+        ensures refused_by_the_first_failing_check_else_over_these_tables { MatchResult result (λ m. (tables_refusal tables.entry ≡ None) × (m.tables ≡ tables.entry)) (λ e. tables_refusal tables.entry ≡ Some e) }
+    {
+        tables.check()?;
+        Ok(TableMap { tables })
+    }
+
     /// The map of no junctions, to load tables into.
     pub fn empty() -> TableMap<'a>
-        ensures all_tables_empty { (result.counts.now ≡ []) × (result.heads.now ≡ []) × (result.times.now ≡ []) × (result.draws.now ≡ []) }
+        ensures all_tables_empty { (result.tables.counts.now ≡ []) × (result.tables.heads.now ≡ []) × (result.tables.times.now ≡ []) × (result.tables.draws.now ≡ []) }
     {
         TableMap {
-            counts: &[],
-            heads: &[],
-            times: &[],
-            draws: &[],
+            tables: Tables {
+                counts: &[],
+                heads: &[],
+                times: &[],
+                draws: &[],
+            },
         }
     }
 
     /// Takes these tables in place of those it has. Refuses tables that fail a check, and is then as before.
-    pub fn load(
-        &mut self,
-        counts: &'a [u32],
-        heads: &'a [u32],
-        times: &'a [u32],
-        draws: &'a [i32],
-    ) -> Result<(), Refusal>
-        ensures refused_by_the_first_failing_check { result_err result ≡ table_refusal counts.now heads.now times.now draws.now }
-        ensures counts_taken_unless_refused { self.new.counts.now ≡ (if is_ok result then counts.now else self.old.counts.now) }
-        ensures heads_taken_unless_refused { self.new.heads.now ≡ (if is_ok result then heads.now else self.old.heads.now) }
-        ensures times_taken_unless_refused { self.new.times.now ≡ (if is_ok result then times.now else self.old.times.now) }
-        ensures draws_taken_unless_refused { self.new.draws.now ≡ (if is_ok result then draws.now else self.old.draws.now) }
+    pub fn load(&mut self, tables: Tables<'a>) -> Result<(), Refusal>
+        ensures refused_by_the_first_failing_check { result_err result ≡ tables_refusal tables.entry }
+        ensures tables_taken_unless_refused { self.new.tables ≡ (if is_ok result then tables.entry else self.old.tables) }
     {
-        check(counts, heads, times, draws)?;
-        *self = TableMap {
-            counts,
-            heads,
-            times,
-            draws,
-        };
+        *self = TableMap::new(tables)?;
         Ok(())
     }
 }
 
 impl Map for TableMap<'_> {
-    ghost rows = { λ m. table_rows m.counts.now m.heads.now m.times.now m.draws.now };
+    ghost rows = { λ m. table_rows m.tables.counts.now m.tables.heads.now m.tables.times.now m.tables.draws.now };
 
-    ghost sound = { λ m. table_sound m.counts.now m.heads.now m.times.now m.draws.now m.checked };
+    ghost sound = { λ m. table_sound m.tables.counts.now m.tables.heads.now m.tables.times.now m.tables.draws.now m.checked };
 
     fn junctions(&self) -> u32 {
-        self.counts.len() as u32
+        self.tables.counts.len() as u32
     }
 
     fn place(&self, junction: u32, place: u32) -> Result<Option<Road>, Refusal> {
+        check_place(self.junctions(), junction, place)?;
         let v = junction as usize;
         let k = place as usize;
-        if v >= self.counts.len() {
-            return Err(Refusal::JunctionOffMap);
-        }
-        if k > 11 {
-            return Err(Refusal::PlaceAboveEleven);
-        }
-        if place >= self.counts[v] {
+        if place >= self.tables.counts[v] {
             return Ok(None);
         }
-        let i = 12 * v + k;
-        Ok(Some(Road {
-            head: self.heads[i],
-            seconds: self.times[i],
-            draw: self.draws[i],
-        }))
+        Ok(Some(self.tables.road(12 * v + k)))
     }
 }

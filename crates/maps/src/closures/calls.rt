@@ -1,48 +1,39 @@
 //! Shutting and reopening places, and the questions of the map that is left.
-ghost use Rattle.std.specs.Prelude.{◌≡◌, ◌<◌, true, not, length, replicate, IfSome, is_ok, None, MatchResult};
+ghost use Rattle.std.specs.Prelude.{◌≡◌, true, length, position, replicate, is_ok, None, MatchResult};
 ghost use Rattle.std.specs.Result.{result_err};
 ghost use Rattle.maps.specs.Rows.{at};
-ghost use Rattle.maps.specs.Entries.{free, holds, first_entry};
+ghost use Rattle.maps.specs.Entries.{is_like, shut_at};
 ghost use Rattle.maps.specs.Closures.{open_rows, shut_refusal, reopen_refusal, OneMoreShut, OneLessShut, OnePlaceChanged};
 ghost use Rattle.maps.specs.ClosuresSound.{open_sound};
 
-use super::{Closures, Entry};
-use crate::Map;
+use super::{Closures, ShutPlace};
 use crate::road::Road;
+use crate::{Map, check_place};
 use refusals::refusal::Refusal;
 
-// The first entry that holds this place.
-fn find(entries: &[Entry; 64], junction: u32, place: u32) -> Option<usize>
-    ensures { (result ≡ first_entry (holds junction place) entries.now) × (IfSome result (λ i. i < 64)) }
-{
-    for i in 0..64 {
-        if entries[i].holds(junction, place) {
-            return Some(i);
-        }
+impl<M> Closures<M> {
+    // The first entry like this one: the one that shuts a place, or a free one.
+    fn find(&self, wanted: Option<ShutPlace>) -> Option<usize>
+        ensures { result ≡ position (is_like wanted) self.now.entries }
+    {
+        self.entries.iter().position(|entry| *entry == wanted)
     }
-    None
-}
 
-// The first free entry.
-fn vacant(entries: &[Entry; 64]) -> Option<usize>
-    ensures { (result ≡ first_entry (λ e. not e.used) entries.now) × ((IfSome result (λ i. i < 64)) × (length entries.now ≡ 64)) }
-{
-    for i in 0..64 {
-        if entries[i].is_free() {
-            return Some(i);
-        }
+    fn is_shut(&self, junction: u32, place: u32) -> bool
+        ensures { result ≡ shut_at self.now.entries junction place }
+    {
+        self.entries.contains(&Some(ShutPlace { junction, place }))
     }
-    None
 }
 
 impl<M: Map + Drop> Closures<M> {
     /// The map with no place shut.
     pub fn over(below: M) -> Closures<M>
-        ensures no_place_shut { (result.below ≡ below) × (result.entries ≡ replicate 64 free) }
+        ensures no_place_shut { (result.below ≡ below) × (result.entries ≡ replicate 64 None) }
     {
         Closures {
             below,
-            entries: [Entry::free(); 64],
+            entries: [None; 64],
         }
     }
 
@@ -53,22 +44,13 @@ impl<M: Map + Drop> Closures<M> {
         ensures that_place_and_no_other_is_shut { is_ok result ≡ true → OneMoreShut junction place self.old.entries self.new.entries }
         ensures that_place_is_empty_and_no_other_changed { is_ok result ≡ true → OnePlaceChanged junction place None (open_rows self.old.entries (M.Map.rows self.old.below)) (open_rows self.new.entries (M.Map.rows self.new.below)) }
     {
-        if junction >= self.below.junctions() {
-            return Err(Refusal::JunctionOffMap);
-        }
-        if place > 11 {
-            return Err(Refusal::PlaceAboveEleven);
-        }
-        if find(&self.entries, junction, place).is_some() {
+        check_place(self.below.junctions(), junction, place)?;
+        if self.is_shut(junction, place) {
             return Err(Refusal::PlaceAlreadyShut);
         }
-        match vacant(&self.entries) {
-            None => Err(Refusal::SixtyFourShut),
-            Some(i) => {
-                self.entries[i].take(junction, place);
-                Ok(())
-            }
-        }
+        let free = self.find(None).ok_or(Refusal::SixtyFourShut)?;
+        self.entries[free].replace(ShutPlace { junction, place });
+        Ok(())
     }
 
     /// Reopens a shut place, and frees its entry for another. Refuses a place that is not shut.
@@ -78,19 +60,12 @@ impl<M: Map + Drop> Closures<M> {
         ensures that_place_and_no_other_is_open { is_ok result ≡ true → OneLessShut junction place self.old.entries self.new.entries }
         ensures that_place_is_as_below_and_no_other_changed { is_ok result ≡ true → OnePlaceChanged junction place (at (M.Map.rows self.old.below) junction place) (open_rows self.old.entries (M.Map.rows self.old.below)) (open_rows self.new.entries (M.Map.rows self.new.below)) }
     {
-        if junction >= self.below.junctions() {
-            return Err(Refusal::JunctionOffMap);
-        }
-        if place > 11 {
-            return Err(Refusal::PlaceAboveEleven);
-        }
-        match find(&self.entries, junction, place) {
-            None => Err(Refusal::PlaceNotShut),
-            Some(i) => {
-                self.entries[i].release();
-                Ok(())
-            }
-        }
+        check_place(self.below.junctions(), junction, place)?;
+        let shut = self
+            .find(Some(ShutPlace { junction, place }))
+            .ok_or(Refusal::PlaceNotShut)?;
+        self.entries[shut].take();
+        Ok(())
     }
 }
 
@@ -105,9 +80,10 @@ impl<M: Map> Map for Closures<M> {
 
     fn place(&self, junction: u32, place: u32) -> Result<Option<Road>, Refusal> {
         let road = self.below.place(junction, place)?;
-        if find(&self.entries, junction, place).is_some() {
-            return Ok(None);
-        }
-        Ok(road)
+        Ok(if self.is_shut(junction, place) {
+            None
+        } else {
+            road
+        })
     }
 }
