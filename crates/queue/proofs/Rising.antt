@@ -1,19 +1,19 @@
 -- An entry that goes up a heap, one parent at a time.
 use Rattle.std.proofs.Common.{◌≡◌, ℕ, ◌+◌, ◌-◌, ◌*◌, ◌/◌, ◌<◌, ◌≤◌, Bool, true, false, List, get_or, refl, ap, ◌∙◌, ⊎_elim, arith}
 use Rattle.std.specs.Cmp.{IsStrictWeakOrder}
+use Rattle.std.specs.List.{SwappedAt}
 use Rattle.std.proofs.Permutation.{which}
 use Rattle.queue.specs.Heaps.{HeapedFrom, Heaped}
 use Rattle.queue.proofs.HeapOrder.{HeapedBut, not_before}
-use Rattle.queue.proofs.Rearranging.{Exchanged}
 
 module _ {X : Type 0} (before : X → X → Bool) where
   -- of the first n entries only the one at j may come before its parent
   unfoldable pub Rising : List X → ℕ → ℕ → Type 0
   Rising xs j n = HeapedBut before xs j n × ((k : ℕ) (d : X) → j * 2 + 1 ≤ k → k ≤ j * 2 + 2 → k < n → before (get_or xs k d) (get_or xs j d) ≡ false)
 
-  pub rising_from_the_end : (xs : List X) (n : ℕ) → Heaped before xs n → Rising xs n (n + 1)
+  pub rising_from_the_end : (xs : List X) (n : ℕ) → 0 < n → Heaped before xs (n - 1) → Rising xs (n - 1) n
   unfolding Rising HeapedFrom
-  rising_from_the_end xs n h = ((λ p k d a b f u v. h p k d (omega arith) a b (omega arith), λ p k d a b f g i. absurd (omega arith)), λ k d a b f. absurd (omega arith))
+  rising_from_the_end xs n some h = ((λ p k d a b f u v. h p k d (omega arith) a b (omega arith), λ p k d a b f g i. absurd (omega arith)), λ k d a b f. absurd (omega arith))
 
   pub heaped_at_the_top : (xs : List X) (j n : ℕ) → Rising xs j n → j ≡ 0 → Heaped before xs n
   unfolding Rising HeapedFrom
@@ -33,7 +33,7 @@ module _ {X : Type 0} (before : X → X → Bool) where
   heaped_under_the_parent xs j n h t = ⊎_elim (heaped_at_the_top xs j n h) (λ u. heaped_under_a_parent xs j ((j - 1) / 2) n (omega arith) (omega arith) t h) (which j 0)
 
   -- the entry at c has changed places with its parent at j, which it came before
-  pub rising_one_up : IsStrictWeakOrder before → (xs ys : List X) (j c n : ℕ) → j * 2 + 1 ≤ c → c ≤ j * 2 + 2 → c < n → Exchanged xs ys j c → ((d : X) → before (get_or xs c d) (get_or xs j d) ≡ true) → Rising xs c n → Rising ys j n
+  pub rising_one_up : IsStrictWeakOrder before → (xs ys : List X) (j c n : ℕ) → j * 2 + 1 ≤ c → c ≤ j * 2 + 2 → c < n → SwappedAt xs ys j c → ((d : X) → before (get_or xs c d) (get_or xs j d) ≡ true) → Rising xs c n → Rising ys j n
   unfolding Rising
   rising_one_up order xs ys j c n from to within s t h = (
     (

@@ -1,12 +1,12 @@
 -- An entry that goes down a heap, one child at a time.
 use Rattle.std.proofs.Common.{◌≡◌, ℕ, ◌+◌, ◌*◌, ◌/◌, ◌<◌, ◌≤◌, Bool, true, false, cond, ltb, List, get_or, refl, ap, ◌∙◌, ⊎_elim, arith}
 use Rattle.std.specs.Cmp.{IsStrictWeakOrder}
+use Rattle.std.specs.List.{SwappedAt}
 use Rattle.std.proofs.Permutation.{which}
 use Rattle.std.proofs.lemmas.Bool.{ltb-false}
 use Rattle.queue.specs.Heaps.{HeapedFrom, Heaped}
 use Rattle.queue.specs.Sifting.{LesserChild}
 use Rattle.queue.proofs.HeapOrder.{HeapedBut, not_before, not_before_itself}
-use Rattle.queue.proofs.Rearranging.{Exchanged}
 
 module _ {X : Type 0} (before : X → X → Bool) where
   -- of the first n entries only the one at j may come after a child
@@ -44,7 +44,7 @@ module _ {X : Type 0} (before : X → X → Bool) where
         (λ v. h.0.0 p k d a b f u v) (which k j)) (which p j)
 
     -- the entry at j has changed places with its lesser child at c, which came before it
-    pub sinking_one_down : (xs ys : List X) (j c n : ℕ) → Exchanged xs ys j c → LesserChild before xs n j c → ((d : X) → before (get_or xs c d) (get_or xs j d) ≡ true) → Sinking xs j n → Sinking ys c n
+    pub sinking_one_down : (xs ys : List X) (j c n : ℕ) → SwappedAt xs ys j c → LesserChild before xs n j c → ((d : X) → before (get_or xs c d) (get_or xs j d) ≡ true) → Sinking xs j n → Sinking ys c n
     unfolding Sinking
     sinking_one_down xs ys j c n s is t h = (
       (

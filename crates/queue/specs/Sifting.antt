@@ -1,12 +1,5 @@
--- What one step of a sift does: the words of the queue's private calls.
-use Rattle.std.specs.Prelude.{◌≡◌, ℕ, ◌+◌, ◌*◌, ◌<◌, ◌≤◌, Bool, cond, List, length, take, drop, nat_lt, slice_index_or}
-use Rattle.std.specs.List.Sorted.{IsPermutation}
-
--- the first n entries of xs have changed places in ys, and nothing else has
-pub record Rearranged {X : Type 0} (n : ℕ) (xs ys : List X) : Type 0 where
-  pub same_entries : IsPermutation (take n xs) (take n ys)
-  pub rest_untouched : drop n ys ≡ drop n xs
-  pub same_length : length ys ≡ length xs
+-- What one step down a heap picks: the word of a private call of the queue.
+use Rattle.std.specs.Prelude.{◌≡◌, ℕ, ◌+◌, ◌*◌, ◌<◌, ◌≤◌, Bool, cond, List, nat_lt, slice_index_or}
 
 -- of the first n entries, the one at c is the lesser child of the one at `parent`: the right child only where it is there and comes before the left
 pub record LesserChild {X : Type 0} (before : X → X → Bool) (xs : List X) (n parent c : ℕ) : Type 0 where

@@ -3,6 +3,7 @@ ghost use Rattle.std.specs.Prelude.{◌≡◌, Bool};
 ghost use Rattle.std.specs.Cmp.{IsStrictWeakOrder};
 
 /// An entry tells of two which leaves the queue first; two that tie may leave in either order.
+// Not std's `Ord`: entries that tie need not be equal, as its laws would have them.
 pub trait Entry: Copy {
     // whether the first comes before the second
     ghost earlier: { Self → Self → Bool };

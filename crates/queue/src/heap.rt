@@ -3,9 +3,10 @@ ghost use Rattle.std.specs.Prelude.{◌≡◌, ◌≤◌, min, length};
 
 use crate::entry::Entry;
 
-mod sifts;
+mod calls;
 
 /// The entries that wait are the first `len` of the slice.
+// A lent slice with a count, and no Vec: a queue takes no memory of its own.
 #[derive(Drop)]
 pub struct Heap<'a, E> {
     entries: &'a mut [E],
@@ -20,8 +21,7 @@ impl<'a, E: Entry> Heap<'a, E> {
         ensures holds_what_the_slice_held { result.entries.now ≡ entries.old }
         ensures count_clamped_to_the_slice { result.len ≡ min count (length entries.old) }
     {
-        let room = entries.len();
-        let len = if count < room { count } else { room };
+        let len = count.min(entries.len());
         Heap { entries, len }
     }
 

@@ -4,6 +4,7 @@
 pub mod entry;
 pub mod full;
 pub mod heap;
+mod sifts;
 
 pub use entry::Entry;
 pub use full::Full;

@@ -2,19 +2,17 @@
 ghost use Rattle.std.specs.Prelude.{◌≡◌, length, MatchOption, MatchResult};
 ghost use Rattle.queue.specs.Waiting.{slots, OverSameSlice, First, Pushed, Popped};
 
+use super::Heap;
 use crate::entry::Entry;
 use crate::full::Full;
-use crate::heap::Heap;
+use crate::sifts::{sift_down, sift_up};
 
 impl<'a, E: Entry> Heap<'a, E> {
     /// The entry that leaves next, none of the others coming before it; none when the queue is empty.
     pub fn peek(&self) -> Option<E>
         ensures { MatchOption result (self.now.len ≡ 0) (λ x. First E.Entry.earlier self.now x) }
     {
-        if self.len == 0 {
-            return None;
-        }
-        Some(self.first())
+        self.entries[..self.len].first().copied()
     }
 
     /// Puts an entry in, in the logarithm of the count; refused when the slice is full, and then nothing has changed.
@@ -26,7 +24,8 @@ impl<'a, E: Entry> Heap<'a, E> {
         if count == self.entries.len() {
             return Err(Full);
         }
-        self.insert(count, entry);
+        self.entries[count] = entry;
+        sift_up(&mut self.entries[..count + 1]);
         self.len = count + 1;
         Ok(())
     }
@@ -36,13 +35,11 @@ impl<'a, E: Entry> Heap<'a, E> {
         ensures over_the_same_slice { OverSameSlice self.old self.new }
         ensures takes_the_first_unless_empty { MatchOption result ((self.old.len ≡ 0) × (self.new ≡ self.old)) (λ x. Popped E.Entry.earlier self.old x self.new) }
     {
-        let count = self.len;
-        if count == 0 {
-            return None;
-        }
-        let first = self.first();
-        self.remove_first(count);
-        self.len = count - 1;
+        let first = self.peek()?;
+        let last = self.len - 1;
+        self.entries[0] = self.entries[last];
+        sift_down(&mut self.entries[..last]);
+        self.len = last;
         Some(first)
     }
 }
