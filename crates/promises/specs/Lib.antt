@@ -9,4 +9,3 @@ pub mod Chart
 pub mod Runs
 pub mod Law
 pub mod ChartLaw
-pub mod Orders

@@ -5,11 +5,12 @@ ghost use Rattle.queue.specs.Heaps.{Heaped, Least};
 ghost use Rattle.std.proofs.Common.{rules};
 
 use queue::{Entry, Full, Heap};
+use std::mem;
 use std::process::Abort;
 use std::test::Fail;
 
 /// An event at a time; events of one time tie, whatever their numbers.
-#[derive(Clone, Copy)]
+#[derive(Clone, Copy, PartialEq, Eq, Debug)]
 struct Event {
     time: u16,
     number: u16,
@@ -32,13 +33,8 @@ const BLANK: Event = Event {
 
 /// Pushes an event of each time, numbered in turn.
 fn push_all(heap: &mut Heap<'_, Event>, times: &[u16]) -> Result<(), Full> {
-    let mut number = 0u16;
-    for time in times {
-        heap.push(Event {
-            time: *time,
-            number,
-        })?;
-        number = number.wrapping_add(1);
+    for (number, &time) in (0..u16::MAX).zip(times) {
+        heap.push(Event { time, number })?;
     }
     Ok(())
 }
@@ -46,9 +42,10 @@ fn push_all(heap: &mut Heap<'_, Event>, times: &[u16]) -> Result<(), Full> {
 /// Takes out an event of each time, the one looked at before, and then finds the queue empty.
 fn check_leave(rt: &impl Abort, heap: &mut Heap<'_, Event>, times: &[u16]) -> Result<(), Fail> {
     for time in times {
-        let next = heap.peek().ok_or("no event is left")?;
+        let next = heap.peek();
         let event = heap.pop().ok_or("no event is left")?;
-        assert!(rt; event.time == *time && event.number == next.number);
+        assert_eq!(rt; event.time, *time);
+        assert_eq!(rt; next, Some(event));
     }
     assert!(rt; heap.peek().is_none() && heap.pop().is_none());
     Ok(())
@@ -121,11 +118,9 @@ fn slice_handed_back_is_wrapped_again(rt: HostRuntime) -> Result<(), Fail> {
     let mut room = [BLANK; 4];
     let mut heap = Heap::over(&mut room, 0);
     push_all(&mut heap, &[8, 2])?;
-    assert!(rt;
-        room[0].time == 2
-            && room[1].time == 8
-            && room[2].time == BLANK.time
-            && room[3].time == BLANK.time
+    assert_eq!(rt;
+        room.map(|event| event.time),
+        [2, 8, BLANK.time, BLANK.time]
     );
     let least = push_then_pop(&mut room, 2, Event { time: 5, number: 2 }).ok_or(
         "no event is left",
@@ -139,10 +134,10 @@ fn slice_handed_back_is_wrapped_again(rt: HostRuntime) -> Result<(), Fail> {
 
 /// Marks an event as taken, by its number, which no event before it had.
 fn check_taken_once(rt: &impl Abort, taken: &mut [bool; 300], event: Event) {
-    let number = event.number as usize;
+    let number = usize::from(event.number);
     assert!(rt; number < 300);
-    assert!(rt; !taken[number]);
-    taken[number] = true;
+    let taken_before = mem::replace(&mut taken[number], true);
+    assert!(rt; !taken_before);
 }
 
 #[test]
@@ -207,13 +202,8 @@ struct Counts {
 
 impl Counts {
     /// The least time of which an event waits.
-    fn least(&self) -> Option<u16> {
-        for time in 0..32u16 {
-            if self.of[time as usize] > 0 {
-                return Some(time);
-            }
-        }
-        None
+    fn least(&self) -> Option<usize> {
+        self.of.iter().position(|count| *count > 0)
     }
 }
 
@@ -226,11 +216,12 @@ fn check_push(
     room: usize,
 ) {
     let full = heap.len() == room;
-    let refused = heap.push(event).is_err();
-    assert_eq!(rt; refused, full);
-    let time = event.time as usize;
-    if !refused && time < 32 {
-        counts.of[time] = counts.of[time].wrapping_add(1);
+    let pushed = heap.push(event);
+    assert_eq!(rt; pushed, if full { Err(Full) } else { Ok(()) });
+    if pushed.is_ok()
+        && let Some(count) = counts.of.get_mut(usize::from(event.time))
+    {
+        *count = count.wrapping_add(1);
     }
 }
 
@@ -241,8 +232,8 @@ fn check_pop(rt: &impl Abort, heap: &mut Heap<'_, Event>, counts: &mut Counts) -
         assert_eq!(rt; least, None);
         return Ok(());
     };
-    assert_eq!(rt; least, Some(event.time));
-    let time = event.time as usize;
+    let time = usize::from(event.time);
+    assert_eq!(rt; least, Some(time));
     assert!(rt; time < 32);
     counts.of[time] = counts.of[time].wrapping_sub(1);
     Ok(())

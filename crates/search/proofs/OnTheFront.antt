@@ -1,10 +1,11 @@
 -- The search's tests, offers and order are those of the front.
-use Rattle.std.proofs.Common.{◌≡◌, ℕ, ◌<◌, ◌≤◌, Bool, true, false, cond, eqb, ltb, leb, ◌⊎◌, List, [], ◌∷◌, ◌++◌, map, length, get_or, Some, None, Option, sym, ap, ◌∙◌, subst, inl, inr, true≢false, arith}
+use Rattle.std.proofs.Common.{◌≡◌, ℕ, ◌<◌, ◌≤◌, Bool, true, false, eqb, leb, ◌⊎◌, List, [], ◌∷◌, ◌++◌, map, length, get_or, Some, None, Option, sym, ap, ◌∙◌, subst, inl, inr, true≢false, arith}
 use lib.ListN.{length-map}
 use Rattle.std.specs.Option.{option_map}
 use Rattle.std.specs.List.{ContainsAt as Has}
 use Rattle.std.proofs.ByRecursion.{all-has}
 use Rattle.std.proofs.lemmas.List.{get_or-map, get_or_past}
+use Rattle.std.proofs.lemmas.Bool.Decides.{nat_tests}
 use Rattle.std.proofs.lemmas.Bool.{leb-true, le-leb, eqb-true, eq-eqb, lt-ltb, le-ltb, and_parts, and_from, or_cases, cond-true, cond-false, cases_lt}
 use Rattle.maps.specs.declared.road.Road.{Road}
 use Rattle.maps.specs.Rows.{Rows, at}
@@ -93,17 +94,11 @@ module _ {L : Type 0} (m : Meaning L) where
       kept' : (d : Label L) → Has (labels_of cs) d → Served q.kind listed d.arrival ⊎ Has (labels_of cs') d
       kept' d h = let (c, hc, e) = map_has (λ (c : Candidate L). c.label) cs d h in by c d e (p.what_waited_is_served_or_waits c hc)
 
-  lex_lt : (i j : ℕ) (t : Bool) → i < j → cond (ltb i j) true t ≡ true
-  lex_lt i j t h = cond-true _ _ _ (lt-ltb i j h)
-
-  lex_eq : (i j : ℕ) (t : Bool) → i ≡ j → cond (ltb i j) true (cond (ltb j i) false t) ≡ t
-  lex_eq i j t e = cond-false _ _ _ (le-ltb i j (omega (arith, e))) ∙ cond-false _ _ _ (le-ltb j i (omega (arith, e)))
-
   -- what is before in the front leaves the queue first
   pub before_leaves : (d c : Candidate L) → d.rank ≡ m.rank d.label.arrival.load → c.rank ≡ m.rank c.label.arrival.load → Before m d.label.arrival c.label.arrival → leaves_before d c ≡ true
-  before_leaves d c rd rc (sooner p) = lex_lt _ _ _ p
-  before_leaves d c rd rc (higher_rank p r) = lex_eq _ _ _ p ∙ lex_lt c.rank d.rank _ (omega (arith, rd, rc, r))
-  before_leaves d c rd rc (lower_junction p r s) = lex_eq _ _ _ p ∙ (lex_eq _ _ _ (rc ∙ (sym r ∙ sym rd)) ∙ lex_lt _ _ _ s)
+  before_leaves d c rd rc (sooner p) = grind (arith, nat_tests)
+  before_leaves d c rd rc (higher_rank p r) = grind (arith, nat_tests)
+  before_leaves d c rd rc (lower_junction p r s) = grind (arith, nat_tests)
 
 module _ {L : Type 0} (q : Query L) (listed : List (Label L)) where
   pub next : (cs : List (Candidate L)) (c : Candidate L) → ((d : Candidate L) → Has (c ∷ cs) d → d.rank ≡ q.kind.rank d.label.arrival.load) → Least leaves_before c (c ∷ cs) → served_by q.kind listed c.label.arrival ≡ false → IsNext q listed (labels_of (c ∷ cs)) c.label

@@ -9,6 +9,7 @@ use crate::sifts::{sift_down, sift_up};
 
 impl<'a, E: Entry> Heap<'a, E> {
     /// The entry that leaves next, none of the others coming before it; none when the queue is empty.
+    #[tactic(auto, using(crate::proofs::HeapOrder::first_of_those_waiting))]
     pub fn peek(&self) -> Option<E>
         ensures { MatchOption result (self.now.len ≡ 0) (λ x. First E.Entry.earlier self.now x) }
     {
