@@ -1,16 +1,6 @@
 use Rattle.std.proofs.Common.{◌≡◌, ℕ, suc, ◌+◌, ◌-◌, ◌*◌, ◌<◌, ◌≤◌, true, false, cond, ◌&&◌, eqb, leb, List, length, get_or, drop, ap, ◌∙◌, le-leb}
-use Rattle.std.proofs.lemmas.List.{at_drop_more, at_drop_all}
-use Rattle.files.specs.Lines.{run}
+use Rattle.std.proofs.lemmas.List.{at_drop_more}
 use Rattle.files.specs.Values.{all_digits, numeral}
-
-pub run_more : (b : ℕ) (xs : List ℕ) (i : ℕ) → i < length xs → eqb (get_or xs i 0) b ≡ false → run b (drop i xs) ≡ suc (run b (drop (i + 1) xs))
-run_more b xs i h e = at_drop_more (run b) xs i 0 h ∙ ap (λ t. cond t 0 (suc (run b (drop (i + 1) xs)))) e
-
-pub run_stop : (b : ℕ) (xs : List ℕ) (i : ℕ) → i < length xs → eqb (get_or xs i 0) b ≡ true → run b (drop i xs) ≡ 0
-run_stop b xs i h e = at_drop_more (run b) xs i 0 h ∙ ap (λ t. cond t 0 (suc (run b (drop (i + 1) xs)))) e
-
-pub run_end : (b : ℕ) (xs : List ℕ) (i : ℕ) → length xs ≤ i → run b (drop i xs) ≡ 0
-run_end b xs i h = at_drop_all (run b) xs i h
 
 pub numeral_more : (n : ℕ) (xs : List ℕ) (i : ℕ) → i < length xs → numeral n (drop i xs) ≡ numeral (n * 10 + (get_or xs i 0 - 48)) (drop (i + 1) xs)
 numeral_more n xs i h = at_drop_more (numeral n) xs i 0 h

@@ -1,6 +1,12 @@
 -- What is known of a check that passed.
-use Rattle.std.proofs.Common.{◌≡◌, ℕ, Bool, true, false, cond, Ok, Err, Result, refl, arith}
+use Rattle.std.proofs.Common.{◌≡◌, ℕ, Bool, true, false, cond, Some, None, Ok, Err, Option, Result, refl, arith}
 use Rattle.files.specs.Faults.{then}
+
+pub some_no_none : {X : Type 0} {x : X} → ◌≡◌ {A = Option X} (Some x) None → ⊥
+some_no_none e = let z : ◌≡◌ {A = ℕ} 0 1 = cc in omega arith
+
+pub some_value : {X : Type 0} {x y : X} → ◌≡◌ {A = Option X} (Some x) (Some y) → x ≡ y
+some_value e = cc
 
 pub ok_value : {X E : Type 0} {x y : X} → ◌≡◌ {A = Result X E} (Ok x) (Ok y) → x ≡ y
 ok_value e = cc

@@ -1,6 +1,5 @@
 pub mod Digits
 pub mod Pieces
-pub mod FieldsTaken
 pub mod NamesTaken
 pub mod RowFilled
 pub mod FirstFault

@@ -14,7 +14,7 @@ use Rattle.files.specs.declared.tables.RoadTables.{RoadTables}
 use Rattle.files.specs.Faults.{then, placed, at_line}
 use Rattle.files.specs.Lines.{pieces}
 use Rattle.files.specs.Names.{all_among}
-use Rattle.files.specs.Roads.{road_columns, road_number, road_named, road_names_line, road_line}
+use Rattle.files.specs.Roads.{road_columns, road_same, road_named, road_names_line, road_line}
 use Rattle.files.specs.Tables.{Tables, tables, empty_tables, count, fits_in, with_entry, with_road, trimmed}
 use Rattle.files.specs.Files.{lines_read, file_read, ReadAs}
 use Rattle.files.specs.RoadFile.{road_taken, road_file, road_tables}
@@ -52,7 +52,7 @@ agree_then room (Ok t) (Err e) f g h k = absurd h
 agree_then room (Err e) (Ok rs) f g h k = absurd h
 agree_then room (Err e) (Err d) f g h k = h
 
-agree_lines : (room : ℕ) (cs : List RoadColumn) (n : ℕ) (t : Tables) (rs : List RoadLine) (ps : List (List ℕ)) → all_among road_number road_columns cs ≡ true → Filled room t rs → Agree room (lines_read Roads (road_taken room cs) n t ps) (lines_read Roads (road_listed room cs) n rs ps)
+agree_lines : (room : ℕ) (cs : List RoadColumn) (n : ℕ) (t : Tables) (rs : List RoadLine) (ps : List (List ℕ)) → all_among road_same road_columns cs ≡ true → Filled room t rs → Agree room (lines_read Roads (road_taken room cs) n t ps) (lines_read Roads (road_listed room cs) n rs ps)
 agree_lines room cs n t rs [] all h = h
 agree_lines room cs n t rs (p ∷ []) all h =
     elim (eqb (length p) 0) as (λ b. Agree {E = FileFault} room (cond b (Ok t) (Err (placed Roads (n + 1) (WholeLine LineNotEnded)))) (cond b (Ok rs) (Err (placed Roads (n + 1) (WholeLine LineNotEnded))))) [ true ↦ h | false ↦ refl ]
@@ -70,7 +70,7 @@ agree_file room [] = refl
 agree_file room (p ∷ []) = refl
 agree_file room (p ∷ q ∷ ps) =
     agree_names room 1 (road_names_line p) _ _
-    (λ cs e. agree_lines room cs 1 (empty_tables room) [] (q ∷ ps) (names_complete road_number road_named road_columns (pieces 32 p) cs e) (empty_filled room))
+    (λ cs e. agree_lines room cs 1 (empty_tables room) [] (q ∷ ps) (names_complete road_same road_named road_columns (pieces 32 p) cs e) (empty_filled room))
 
 maps_ok : (room : ℕ) (u : Tables) (t : RoadTables) (y : Result (List RoadLine) FileFault) → room ≤ 9600 → trimmed u ≡ tables t → Agree room (Ok u) y → MapsTheRoads (Ok t) y
 maps_ok room u t (Ok rs) most e h = subst (TablesOf rs) e (tables_of h most)

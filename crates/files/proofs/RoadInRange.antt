@@ -14,7 +14,7 @@ use Rattle.files.specs.Lines.{pieces}
 use Rattle.files.specs.Fields.{parted}
 use Rattle.files.specs.Values.{value, signed_value, fields_filled}
 use Rattle.files.specs.Names.{among, all_among}
-use Rattle.files.specs.Roads.{road_columns, road_number, junction, seconds, watt_hours, road_filled, blank_road, road_line}
+use Rattle.files.specs.Roads.{road_columns, road_same, junction, seconds, watt_hours, road_filled, blank_road, road_line}
 use Rattle.files.proofs.NamesTaken.{parted_long}
 use Rattle.files.proofs.FirstFault.{then_ok, ok_value, ok_no_err, cond_ok}
 
@@ -72,24 +72,30 @@ each_column room road WattHours To f r e h = subst (InRange room To) (ok_value (
 each_column room road WattHours Seconds f r e h = subst (InRange room Seconds) (ok_value (then_ok (watt_hours f) _ r e).2) h
 each_column room road WattHours WattHours f r e h = own_column room road WattHours f r e
 
-abbrev column_of : ℕ → RoadColumn
-column_of n = cond (eqb n 0) From (cond (eqb n 1) To (cond (eqb n 2) Seconds WattHours))
-
-column_back : (c : RoadColumn) → column_of (road_number c) ≡ c
-column_back From = refl
-column_back To = refl
-column_back Seconds = refl
-column_back WattHours = refl
-
-same_column : (c d : RoadColumn) → road_number c ≡ road_number d → c ≡ d
-same_column c d e = sym (column_back c) ∙ ap column_of e ∙ column_back d
+same_column : (c d : RoadColumn) → road_same c d ≡ true → c ≡ d
+same_column From From e = refl
+same_column From To e = absurd (true≢false (sym e))
+same_column From Seconds e = absurd (true≢false (sym e))
+same_column From WattHours e = absurd (true≢false (sym e))
+same_column To From e = absurd (true≢false (sym e))
+same_column To To e = refl
+same_column To Seconds e = absurd (true≢false (sym e))
+same_column To WattHours e = absurd (true≢false (sym e))
+same_column Seconds From e = absurd (true≢false (sym e))
+same_column Seconds To e = absurd (true≢false (sym e))
+same_column Seconds Seconds e = refl
+same_column Seconds WattHours e = absurd (true≢false (sym e))
+same_column WattHours From e = absurd (true≢false (sym e))
+same_column WattHours To e = absurd (true≢false (sym e))
+same_column WattHours Seconds e = absurd (true≢false (sym e))
+same_column WattHours WattHours e = refl
 
 in_line_ok : (k : ℕ) (x : Result RoadLine Refusal) (r : RoadLine) → in_line (in_field k x) ≡ Ok r → x ≡ Ok r
 in_line_ok k (Ok v) r e = ap Ok (ok_value e)
 in_line_ok k (Err z) r e = absurd (ok_no_err (sym e))
 
 -- a column that was in range before, or is read, is in range
-fields_in_range : (room k : ℕ) (cs : List RoadColumn) (fs : List (List ℕ)) (road r : RoadLine) → fields_filled (road_filled room) k cs fs road ≡ Ok r → length cs ≤ length fs → (d : RoadColumn) → InRange room d road ⊎ (among road_number d cs ≡ true) → InRange room d r
+fields_in_range : (room k : ℕ) (cs : List RoadColumn) (fs : List (List ℕ)) (road r : RoadLine) → fields_filled (road_filled room) k cs fs road ≡ Ok r → length cs ≤ length fs → (d : RoadColumn) → InRange room d road ⊎ (among road_same d cs ≡ true) → InRange room d r
 fields_in_range room k [] fs road r e l d h = ⊎_elim (λ i. subst (InRange room d) (ok_value e) i) (λ n. absurd (true≢false (sym n))) h
 fields_in_range room k (c ∷ cs) [] road r e l d h = absurd (omega arith)
 fields_in_range room k (c ∷ cs) (f ∷ fs) road r e l d h =
@@ -99,20 +105,20 @@ fields_in_range room k (c ∷ cs) (f ∷ fs) road r e l d h =
     (⊎_elim
     (λ i. inl (each_column room road c d f s.0 one i))
     (λ n. ⊎_elim
-    (λ same. inl (subst (λ x. InRange room x s.0) (same_column c d (eqb-true _ _ same)) (own_column room road c f s.0 one)))
+    (λ same. inl (subst (λ x. InRange room x s.0) (same_column c d same) (own_column room road c f s.0 one)))
     (λ later. inr later)
-    (or_cases (eqb (road_number c) (road_number d)) (among road_number d cs) n))
+    (or_cases (road_same c d) (among road_same d cs) n))
     h)
 
-every_column : (cs : List RoadColumn) → all_among road_number road_columns cs ≡ true → (d : RoadColumn) → among road_number d cs ≡ true
+every_column : (cs : List RoadColumn) → all_among road_same road_columns cs ≡ true → (d : RoadColumn) → among road_same d cs ≡ true
 every_column cs e d =
-    let has = λ (x : RoadColumn). among road_number x cs in
+    let has = λ (x : RoadColumn). among road_same x cs in
     let a = and_parts (has From) (has To && (has Seconds && (has WattHours && true))) e in
     let b = and_parts (has To) (has Seconds && (has WattHours && true)) a.1 in
     let c = and_parts (has Seconds) (has WattHours && true) b.1 in
-    elim d as (λ x. among road_number x cs ≡ true) [ From ↦ a.0 | To ↦ b.0 | Seconds ↦ c.0 | WattHours ↦ (and_parts (has WattHours) true c.1).0 ]
+    elim d as (λ x. among road_same x cs ≡ true) [ From ↦ a.0 | To ↦ b.0 | Seconds ↦ c.0 | WattHours ↦ (and_parts (has WattHours) true c.1).0 ]
 
-pub road_in_range : (room : ℕ) (cs : List RoadColumn) (p : List ℕ) (r : RoadLine) → all_among road_number road_columns cs ≡ true → road_line room cs p ≡ Ok r → (d : RoadColumn) → InRange room d r
+pub road_in_range : (room : ℕ) (cs : List RoadColumn) (p : List ℕ) (r : RoadLine) → all_among road_same road_columns cs ≡ true → road_line room cs p ≡ Ok r → (d : RoadColumn) → InRange room d r
 road_in_range room cs p r all e d =
     (elim (parted (length cs) (pieces 32 p)) as (λ t. t ≡ parted (length cs) (pieces 32 p) → cond t (fields_filled (road_filled room) 1 cs (pieces 32 p) blank_road) (Err (WholeLine FieldCountDiffers)) ≡ Ok r → InRange room d r) [
       | true ↦ λ t g. let long = parted_long (length cs) (pieces 32 p) t in fields_in_range room 1 cs (pieces 32 p) blank_road r g (omega (arith, long)) d (inr (every_column cs all d))

@@ -1,16 +1,9 @@
--- What a field reader has left, and what a call takes from it.
-use Rattle.std.specs.Prelude.{ℕ, cond, List, [], ◌∷◌, drop, Some, None, Option}
+-- What a field reader has left.
+use Rattle.std.specs.Prelude.{ℕ, List, []}
+use Rattle.std.specs.Option.{option_map_or}
 use Rattle.files.specs.Lines.{pieces}
 use Rattle.files.specs.declared.fields.FieldReader.{FieldReader}
 
 -- the fields to come
 abbrev pub fields_left : FieldReader → List (List ℕ)
-fields_left r = cond r.ended [] (pieces 32 (drop r.at r.line.now))
-
-abbrev pub first : {X : Type 0} → List X → Option X
-first [] = None
-first (x ∷ xs) = Some x
-
-abbrev pub rest : {X : Type 0} → List X → List X
-rest [] = []
-rest (x ∷ xs) = xs
+fields_left r = option_map_or (λ rest. pieces 32 rest.now) r.rest []

@@ -1,11 +1,12 @@
 -- A query file: its columns by name, the values in them, and the list of its queries or its first fault.
-use Rattle.std.specs.Prelude.{ℕ, cond, List, [], ◌∷◌, ◌++◌, Some, None, Ok, codes, Option, Result}
+use Rattle.std.specs.Prelude.{ℕ, Bool, cond, List, [], ◌∷◌, ◌++◌, Some, None, Ok, codes, Option, Result}
 use Rattle.std.specs.Str.{bytes_eq}
 use Rattle.files.specs.declared.fault.FileName.TheVariants.{Queries}
 use Rattle.files.specs.declared.fault.LineFault.{LineFault}
 use Rattle.files.specs.declared.fault.FileFault.{FileFault}
 use Rattle.files.specs.declared.queries.QueryColumn.{QueryColumn}
 use Rattle.files.specs.declared.queries.QueryColumn.TheVariants.{Start, Goal, Charge, Capacity, Deadline, Heater}
+use Rattle.files.specs.contracts.queries.QueryColumnPartialEq.TheImpl as query_eq
 use Rattle.files.specs.declared.queries.Query.{Query}
 use Rattle.files.specs.Faults.{Checked, then}
 use Rattle.files.specs.Lines.{pieces}
@@ -16,13 +17,9 @@ use Rattle.files.specs.Files.{file_read}
 abbrev pub query_columns : List QueryColumn
 query_columns = Start ∷ Goal ∷ Charge ∷ Capacity ∷ Deadline ∷ Heater ∷ []
 
-abbrev pub query_number : QueryColumn → ℕ
-query_number Start = 0
-query_number Goal = 1
-query_number Charge = 2
-query_number Capacity = 3
-query_number Deadline = 4
-query_number Heater = 5
+-- columns are the same as `==` of their type says
+abbrev pub query_same : QueryColumn → QueryColumn → Bool
+query_same = (query_eq.ghosts).eq
 
 abbrev pub query_named : List ℕ → Option QueryColumn
 query_named f =
@@ -51,7 +48,7 @@ abbrev pub blank_query : Query
 blank_query = record { start = 0; goal = 0; charge = 0; capacity = 0; deadline = 0; heater = 0 }
 
 abbrev pub query_names_line : List ℕ → Result (List QueryColumn) LineFault
-query_names_line p = names_line query_number query_named query_columns (pieces 32 p)
+query_names_line p = names_line query_same query_named query_columns (pieces 32 p)
 
 abbrev pub query_line : List QueryColumn → List ℕ → Result Query LineFault
 query_line cs p = value_line (query_filled 0) cs blank_query (pieces 32 p)

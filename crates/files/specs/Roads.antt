@@ -1,11 +1,12 @@
 -- A road line: its columns by name, and the values in them.
-use Rattle.std.specs.Prelude.{ℕ, cond, ◌&&◌, List, [], ◌∷◌, ℤ, pos, negsuc, Some, None, Ok, Err, codes, Option, Result, int_le, nat_le, nat_lt}
+use Rattle.std.specs.Prelude.{ℕ, Bool, cond, ◌&&◌, List, [], ◌∷◌, ℤ, pos, negsuc, Some, None, Ok, Err, codes, Option, Result, int_le, nat_le, nat_lt}
 use Rattle.std.specs.Str.{bytes_eq}
 use Rattle.refusals.specs.declared.refusal.Refusal.TheVariants.{JunctionBeyondRoom, RoadTimeOutOfRange, RoadDrawOutOfRange}
 use Rattle.files.specs.declared.fault.LineFault.{LineFault}
 use Rattle.files.specs.declared.roads.RoadColumn.{RoadColumn}
 use Rattle.files.specs.declared.roads.RoadColumn.TheVariants.{From, To, Seconds, WattHours}
 use Rattle.files.specs.declared.roads.RoadLine.{RoadLine}
+use Rattle.files.specs.contracts.roads.RoadColumnPartialEq.TheImpl as road_eq
 use Rattle.files.specs.Faults.{Checked, then}
 use Rattle.files.specs.Lines.{pieces}
 use Rattle.files.specs.Names.{names_line}
@@ -14,11 +15,9 @@ use Rattle.files.specs.Values.{value, signed_value, value_line}
 abbrev pub road_columns : List RoadColumn
 road_columns = From ∷ To ∷ Seconds ∷ WattHours ∷ []
 
-abbrev pub road_number : RoadColumn → ℕ
-road_number From = 0
-road_number To = 1
-road_number Seconds = 2
-road_number WattHours = 3
+-- columns are the same as `==` of their type says
+abbrev pub road_same : RoadColumn → RoadColumn → Bool
+road_same = (road_eq.ghosts).eq
 
 abbrev pub road_named : List ℕ → Option RoadColumn
 road_named f =
@@ -48,7 +47,7 @@ abbrev pub blank_road : RoadLine
 blank_road = record { from = 0; to = 0; seconds = 0; draw = pos 0 }
 
 abbrev pub road_names_line : List ℕ → Result (List RoadColumn) LineFault
-road_names_line p = names_line road_number road_named road_columns (pieces 32 p)
+road_names_line p = names_line road_same road_named road_columns (pieces 32 p)
 
 abbrev pub road_line : ℕ → List RoadColumn → List ℕ → Result RoadLine LineFault
 road_line room cs p = value_line (road_filled room) cs blank_road (pieces 32 p)

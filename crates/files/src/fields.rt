@@ -1,13 +1,10 @@
-//! A reader that holds a lent line and its place in it.
-ghost use Rattle.std.specs.Prelude.{◌≡◌, ◌≤◌, length};
+//! A reader that holds what is left of a lent line.
 
 /// The fields of a line, one after another.
 #[derive(Drop)]
 pub struct FieldReader<'a> {
-    line: &'a [u8],
-    at: usize,
-    ended: bool,
-    ghost within: { at ≤ length line.now },
+    // None once the last field is taken
+    rest: Option<&'a [u8]>,
 }
 
 pub mod taking;

@@ -3,9 +3,9 @@ ghost use Rattle.std.specs.Prelude.{◌≡◌, [], vec_items};
 ghost use Rattle.files.specs.Lines.{pieces};
 ghost use Rattle.files.specs.LinesLeft.{lines_left};
 ghost use Rattle.files.specs.Files.{lines_read, FillsInMemory, ReadAs};
-ghost use Rattle.files.specs.Queries.{query_named, query_number, query_filled, query_taken, query_list, with_value};
+ghost use Rattle.files.specs.Queries.{query_named, query_filled, query_taken, query_list, with_value};
 
-use crate::columns::{Column, is_name, read_names, read_row};
+use crate::columns::{Column, read_names, read_row};
 use crate::fault::{FileFault, FileName, ReadFault};
 use crate::lines::LineReader;
 use crate::values::read_value;
@@ -13,7 +13,7 @@ use refusals::refusal::Refusal;
 use std::alloc::Global;
 
 /// The columns of a query file.
-#[derive(Clone, Copy)]
+#[derive(Clone, Copy, PartialEq, Eq)]
 pub enum QueryColumn {
     Start,
     Goal,
@@ -88,30 +88,18 @@ impl Column for QueryColumn {
 
     ghost named = { query_named };
 
-    ghost number = { query_number };
-
     ghost filled = { query_filled };
 
     fn from_name(name: &[u8]) -> Option<QueryColumn> {
-        if is_name(name, b"start") {
-            Some(QueryColumn::Start)
-        } else if is_name(name, b"goal") {
-            Some(QueryColumn::Goal)
-        } else if is_name(name, b"charge") {
-            Some(QueryColumn::Charge)
-        } else if is_name(name, b"capacity") {
-            Some(QueryColumn::Capacity)
-        } else if is_name(name, b"deadline") {
-            Some(QueryColumn::Deadline)
-        } else if is_name(name, b"heater") {
-            Some(QueryColumn::Heater)
-        } else {
-            None
+        match name {
+            b"start" => Some(QueryColumn::Start),
+            b"goal" => Some(QueryColumn::Goal),
+            b"charge" => Some(QueryColumn::Charge),
+            b"capacity" => Some(QueryColumn::Capacity),
+            b"deadline" => Some(QueryColumn::Deadline),
+            b"heater" => Some(QueryColumn::Heater),
+            _ => None,
         }
-    }
-
-    fn is(self, other: QueryColumn) -> bool {
-        self as u8 == other as u8
     }
 
     fn fill(self, row: Query, _room: u32, field: &[u8]) -> Result<Query, Refusal> {

@@ -3,7 +3,7 @@ ghost use Rattle.std.specs.Prelude.{◌≡◌, ◌≤◌, min, true, vec_len};
 ghost use Rattle.files.specs.Lines.{pieces};
 ghost use Rattle.files.specs.LinesLeft.{lines_left};
 ghost use Rattle.files.specs.Names.{all_among};
-ghost use Rattle.files.specs.Roads.{road_number, road_columns};
+ghost use Rattle.files.specs.Roads.{road_same, road_columns};
 ghost use Rattle.files.specs.Tables.{tables};
 ghost use Rattle.files.specs.Files.{lines_read, Fills, ReadAs};
 ghost use Rattle.files.specs.RoadFile.{road_taken, road_file, road_tables};
@@ -38,7 +38,7 @@ fn fill_line(
     room: u32,
     line: &[u8],
 ) -> Result<(), LineFault>
-    requires { (all_among road_number road_columns columns.now ≡ true) × (vec_len rows.old.counts ≡ room) }
+    requires { (all_among road_same road_columns columns.now ≡ true) × (vec_len rows.old.counts ≡ room) }
     ensures road_put_or_fault { Fills result (tables rows.new) (road_taken room columns.now (tables rows.old) line.now) }
     ensures rows_kept { vec_len rows.new.counts ≡ room }
 {
@@ -53,7 +53,7 @@ fn fill_lines(
     room: u32,
     lines: &mut LineReader,
 ) -> Result<(), FileFault>
-    requires { (all_among road_number road_columns columns.now ≡ true) × (vec_len rows.old.counts ≡ room) }
+    requires { (all_among road_same road_columns columns.now ≡ true) × (vec_len rows.old.counts ≡ room) }
     ensures { Fills result (tables rows.new) (lines_read lines.old.file (road_taken room columns.now) lines.old.taken (tables rows.old) (lines_left lines.old)) }
 {
     while let Some(line) = lines.next_line()? {

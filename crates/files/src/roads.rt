@@ -1,13 +1,13 @@
 //! A road line: its columns by name, and the values in them.
 ghost use Rattle.std.specs.Prelude.{◌≡◌};
-ghost use Rattle.files.specs.Roads.{road_named, road_number, junction, seconds, watt_hours, road_filled};
+ghost use Rattle.files.specs.Roads.{road_named, junction, seconds, watt_hours, road_filled};
 
-use crate::columns::{Column, is_name};
+use crate::columns::Column;
 use crate::values::{read_signed_value, read_value};
 use refusals::refusal::Refusal;
 
 /// The columns of a road file.
-#[derive(Clone, Copy)]
+#[derive(Clone, Copy, PartialEq, Eq)]
 pub enum RoadColumn {
     From,
     To,
@@ -59,26 +59,16 @@ impl Column for RoadColumn {
 
     ghost named = { road_named };
 
-    ghost number = { road_number };
-
     ghost filled = { road_filled };
 
     fn from_name(name: &[u8]) -> Option<RoadColumn> {
-        if is_name(name, b"from") {
-            Some(RoadColumn::From)
-        } else if is_name(name, b"to") {
-            Some(RoadColumn::To)
-        } else if is_name(name, b"seconds") {
-            Some(RoadColumn::Seconds)
-        } else if is_name(name, b"watthours") {
-            Some(RoadColumn::WattHours)
-        } else {
-            None
+        match name {
+            b"from" => Some(RoadColumn::From),
+            b"to" => Some(RoadColumn::To),
+            b"seconds" => Some(RoadColumn::Seconds),
+            b"watthours" => Some(RoadColumn::WattHours),
+            _ => None,
         }
-    }
-
-    fn is(self, other: RoadColumn) -> bool {
-        self as u8 == other as u8
     }
 
     fn fill(self, row: RoadLine, room: u32, field: &[u8]) -> Result<RoadLine, Refusal> {

@@ -1,6 +1,6 @@
 //! The numbers in a field.
 ghost use Rattle.std.specs.Prelude.{◌≡◌, ◌<◌, IfOk};
-ghost use Rattle.files.specs.Values.{value, value_shaped, has_minus, signed_value};
+ghost use Rattle.files.specs.Values.{value, value_shaped, signed_value};
 
 use refusals::refusal::Refusal;
 
@@ -8,7 +8,10 @@ use refusals::refusal::Refusal;
 fn is_value_shaped(field: &[u8]) -> bool
     ensures { result ≡ value_shaped field.now }
 {
-    !field.is_empty() && field.len() <= 6 && !(field.len() > 1 && field[0] == b'0')
+    match field {
+        [] | [b'0', _, ..] => false,
+        _ => field.len() <= 6,
+    }
 }
 
 /// One to six digits without a leading zero, except 0 itself.
@@ -19,33 +22,26 @@ pub fn read_value(field: &[u8]) -> Result<u32, Refusal>
     if !is_value_shaped(field) {
         return Err(Refusal::NotAValue);
     }
-    let mut n = 0u32;
-    for d in field {
-        if *d < b'0' || *d > b'9' {
+    let mut value = 0u32;
+    for digit in field {
+        if !digit.is_ascii_digit() {
             return Err(Refusal::NotAValue);
         }
-        n = n * 10 + u32::from(*d - b'0');
+        value = value * 10 + u32::from(*digit - b'0');
     }
-    Ok(n)
-}
-
-fn has_minus(field: &[u8]) -> bool
-    ensures { result ≡ has_minus field.now }
-{
-    !field.is_empty() && field[0] == b'-'
+    Ok(value)
 }
 
 /// A value, or a minus and a value that is not 0.
 pub fn read_signed_value(field: &[u8]) -> Result<i32, Refusal>
     ensures { result ≡ signed_value field.now }
 {
-    if !has_minus(field) {
-        let v = read_value(field)?;
-        return Ok(v as i32);
+    let [b'-', digits @ ..] = field else {
+        let value = read_value(field)?;
+        return Ok(value as i32);
+    };
+    match read_value(digits)? {
+        0 => Err(Refusal::NotAValue),
+        value => Ok(-(value as i32)),
     }
-    let v = read_value(&field[1..])?;
-    if v == 0 {
-        return Err(Refusal::NotAValue);
-    }
-    Ok(-(v as i32))
 }

@@ -1,26 +1,18 @@
 //! Takes one line after another from a file.
-ghost use Rattle.std.specs.Prelude.{◌≡◌, ◌+◌, ◌≤◌, length, drop};
-ghost use Rattle.refusals.specs.declared.refusal.Refusal.TheVariants.{LineNotEnded};
-ghost use Rattle.files.specs.declared.fault.LineFault.TheVariants.{WholeLine};
+ghost use Rattle.std.specs.Prelude.{◌≡◌, ◌==◌, position};
 ghost use Rattle.files.specs.Faults.{placed};
-ghost use Rattle.files.specs.Lines.{run, pieces};
+ghost use Rattle.files.specs.Lines.{pieces};
 ghost use Rattle.files.specs.LinesLeft.{lines_left, told, next_line, after_line, count_after};
 
 use crate::fault::{FileFault, FileName, LineFault, PlacedFault};
 use crate::lines::LineReader;
 use refusals::refusal::Refusal;
 
-// Where the first byte `b` stands at or after `at`, or the text's length.
-pub(crate) fn until(text: &[u8], at: usize, b: u8) -> usize
-    requires { at ≤ length text.now }
-    ensures within { result ≤ length text.now }
-    ensures first_found { result ≡ at + run b (drop at text.now) }
+// Where the first byte `b` stands, if there is one.
+pub(crate) fn first_place(text: &[u8], b: u8) -> Option<usize>
+    ensures { result ≡ position (λ x. x == b) text.now }
 {
-    let mut i = at;
-    while i < text.len() && text[i] != b {
-        i += 1;
-    }
-    i
+    text.iter().position(|byte| *byte == b)
 }
 
 impl<'a> LineReader<'a> {
@@ -42,21 +34,16 @@ impl<'a> LineReader<'a> {
     pub fn fault(&self, fault: LineFault) -> FileFault
         ensures { result ≡ placed self.now.file self.now.taken fault }
     {
-        FileFault::from(PlacedFault {
-            file: self.file,
-            line: self.taken,
-            fault,
-        })
+        self.fault_at(self.taken, fault)
     }
 
-    // The fault of a last line that no byte 10 ends.
-    fn not_ended(&self) -> FileFault
-        ensures { result ≡ placed self.now.file (self.now.taken + 1) (WholeLine LineNotEnded) }
+    // A fault of the line of this number, with its place.
+    fn fault_at(&self, line: usize, fault: LineFault) -> FileFault
+        ensures { result ≡ placed self.now.file line fault }
     {
-        let fault = LineFault::WholeLine(Refusal::LineNotEnded);
         FileFault::from(PlacedFault {
             file: self.file,
-            line: self.taken + 1,
+            line,
             fault,
         })
     }
@@ -68,16 +55,16 @@ impl<'a> LineReader<'a> {
         ensures line_counted { self.new.taken ≡ count_after self.old.taken (lines_left self.old) }
         ensures file_kept { self.new.file ≡ self.old.file }
     {
-        if self.at == self.text.len() {
+        let left = &self.text[self.at..];
+        if left.is_empty() {
             return Ok(None);
         }
-        let end = until(self.text, self.at, b'\n');
-        if end == self.text.len() {
-            return Err(self.not_ended());
-        }
-        let line = &self.text[self.at..end];
-        self.at = end + 1;
+        let Some(end) = first_place(left, b'\n') else {
+            let fault = LineFault::WholeLine(Refusal::LineNotEnded);
+            return Err(self.fault_at(self.taken + 1, fault));
+        };
+        self.at += end + 1;
         self.taken += 1;
-        Ok(Some(line))
+        Ok(Some(&left[..end]))
     }
 }

@@ -3,7 +3,7 @@ use Rattle.files.specs.declared.fault.FileName.TheVariants.{Roads}
 use Rattle.files.specs.Faults.{placed}
 use Rattle.files.specs.Lines.{pieces}
 use Rattle.files.specs.LinesLeft.{lines_left, told, next_line, count_after}
-use Rattle.files.specs.Roads.{road_columns, road_number, road_named, road_names_line}
+use Rattle.files.specs.Roads.{road_columns, road_same, road_named, road_names_line}
 use Rattle.files.specs.Tables.{tables}
 use Rattle.files.specs.RoadFile.{road_taken}
 use Rattle.files.proofs.NamesTaken.{names_complete}
@@ -11,7 +11,7 @@ use Rattle.files.proofs.LinesTaken.{names_refused}
 use Rattle.files.proofs.road_file.fill_file.Goals as goal
 
 pub fill_lines-requires : goal.fill_lines-requires
-fill_lines-requires c = (names_complete road_number road_named road_columns (pieces 32 c.in-Some.line.now) c.in-Ok.columns (sym c.in-Ok.ensures), c.requires)
+fill_lines-requires c = (names_complete road_same road_named road_columns (pieces 32 c.in-Some.line.now) c.in-Ok.columns (sym c.in-Ok.ensures), c.requires)
 
 pub returns-in-Err : goal.returns-in-Err
 returns-in-Err c =
