@@ -1,4 +1,5 @@
 pub mod Faults
+pub mod FaultText
 pub mod Lines
 pub mod LinesLeft
 pub mod Fields

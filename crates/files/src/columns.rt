@@ -18,12 +18,19 @@ pub trait Column: Copy + Eq {
     // the column that a name stands for
     ghost named: { List ℕ → Option Self };
 
+    // the row before its fields are read
+    ghost blank: { Self.Row };
+
     // the row with what the field of one column holds
     ghost filled: { ℕ → Self.Row → Self → List ℕ → Checked (Self.Row) };
 
     /// The column that a name stands for.
     fn from_name(name: &[u8]) -> Option<Self>
         ensures { result ≡ named name.now };
+
+    /// The row before its fields are read.
+    fn blank() -> Self::Row
+        ensures { result ≡ blank };
 
     /// The row with what the field of this column holds; junctions are below `room`.
     fn fill(self, row: Self::Row, room: u32, field: &[u8]) -> Result<Self::Row, Refusal>
@@ -58,19 +65,14 @@ pub fn read_names<C: Column, const N: usize>(all: [C; N], line: &[u8]) -> Result
 }
 
 /// A value line, field by field in the order of the columns, from a blank row on.
-pub fn read_row<C: Column>(
-    columns: &[C],
-    room: u32,
-    blank: C::Row,
-    line: &[u8],
-) -> Result<C::Row, LineFault>
-    ensures { result ≡ value_line (C.Column.filled room) columns.now blank (pieces 32 line.now) }
+pub fn read_row<C: Column>(columns: &[C], room: u32, line: &[u8]) -> Result<C::Row, LineFault>
+    ensures { result ≡ value_line (C.Column.filled room) columns.now C.Column.blank (pieces 32 line.now) }
 {
     if !is_parted(line, columns.len()) {
         return Err(LineFault::WholeLine(Refusal::FieldCountDiffers));
     }
     let mut fields = FieldReader::new(line);
-    let mut row = blank;
+    let mut row = C::blank();
     for (before, column) in columns.iter().enumerate() {
         if let Some(field) = fields.next() {
             row = column.fill(row, room, field).map_err(|refusal| ValueFault {

@@ -1,17 +1,31 @@
 //! What is wrong with a file: a value's fault inside a line's fault inside a file's fault.
-ghost use Rattle.std.specs.Prelude.{◌≡◌};
+ghost use Rattle.std.specs.Prelude.{◌≡◌, Some};
 ghost use Rattle.files.specs.declared.fault.LineFault.TheVariants.{InField};
 ghost use Rattle.files.specs.declared.fault.ReadFault.TheVariants.{NoMemory, InFile};
 ghost use Rattle.files.specs.Faults.{placed};
+ghost use Rattle.files.specs.FaultText.{file_name, fault_text};
 
 use refusals::refusal::Refusal;
 use std::alloc::{AllocError, AllocFailed};
+use std::fmt;
 
 /// Which of the program's files.
 #[derive(Clone, Copy, PartialEq, Eq, Debug)]
 pub enum FileName {
     Roads,
     Queries,
+}
+
+impl FileName {
+    /// What the file is called in the working directory.
+    pub fn name(self) -> &'static str
+        ensures { result.now ≡ file_name self }
+    {
+        match self {
+            FileName::Roads => "roads.txt",
+            FileName::Queries => "queries.txt",
+        }
+    }
 }
 
 /// What is wrong with a value, and the field, from 1, that it stands in.
@@ -51,6 +65,19 @@ pub struct FileFault {
     pub line: usize,
     pub field: usize,
     pub refusal: Refusal,
+}
+
+/// The file, the line, the field and the refusal's number.
+impl fmt::Display for FileFault {
+    ghost output = { λ f. Some (fault_text f) };
+
+    fn fmt<W: fmt::Write>(&self, f: &mut fmt::Formatter<W>) -> fmt::Result {
+        let file = self.file.name();
+        let line = self.line;
+        let field = self.field;
+        let code = self.refusal.number();
+        write!(f, "{file} {line} {field} {code}")
+    }
 }
 
 impl From<PlacedFault> for FileFault {

@@ -12,6 +12,6 @@ pub mod tables;
 pub mod values;
 
 pub use fault::{FileFault, FileName, ReadFault};
-pub use queries::{Query, read_queries};
+pub use queries::{Question, read_queries};
 pub use road_file::read_roads;
 pub use tables::RoadTables;

@@ -3,12 +3,13 @@ ghost use Rattle.std.specs.Prelude.{◌≡◌, [], vec_items};
 ghost use Rattle.files.specs.Lines.{pieces};
 ghost use Rattle.files.specs.LinesLeft.{lines_left};
 ghost use Rattle.files.specs.Files.{lines_read, FillsInMemory, ReadAs};
-ghost use Rattle.files.specs.Queries.{query_named, query_filled, query_taken, query_list, with_value};
+ghost use Rattle.files.specs.Queries.{query_named, blank_query, query_filled, query_taken, query_list, with_value};
 
 use crate::columns::{Column, read_names, read_row};
 use crate::fault::{FileFault, FileName, ReadFault};
 use crate::lines::LineReader;
 use crate::values::read_value;
+pub use questions::question::Question;
 use refusals::refusal::Refusal;
 use std::alloc::Global;
 
@@ -23,17 +24,6 @@ pub enum QueryColumn {
     Heater,
 }
 
-/// What a query line asks: a drive from start to goal with a charge, by a deadline, under a heater.
-#[derive(Clone, Copy, PartialEq, Eq, Debug)]
-pub struct Query {
-    pub start: u32,
-    pub goal: u32,
-    pub charge: u32,
-    pub capacity: u32,
-    pub deadline: u32,
-    pub heater: u32,
-}
-
 const ALL: [QueryColumn; 6] = [
     QueryColumn::Start,
     QueryColumn::Goal,
@@ -43,50 +33,26 @@ const ALL: [QueryColumn; 6] = [
     QueryColumn::Heater,
 ];
 
-const BLANK: Query = Query {
-    start: 0,
-    goal: 0,
-    charge: 0,
-    capacity: 0,
-    deadline: 0,
-    heater: 0,
-};
-
-fn with_value(query: Query, column: QueryColumn, value: u32) -> Query
-    ensures { result ≡ with_value query column value }
+fn with_value(mut question: Question, column: QueryColumn, value: u32) -> Question
+    ensures { result ≡ with_value question column value }
 {
     match column {
-        QueryColumn::Start => Query {
-            start: value,
-            ..query
-        },
-        QueryColumn::Goal => Query {
-            goal: value,
-            ..query
-        },
-        QueryColumn::Charge => Query {
-            charge: value,
-            ..query
-        },
-        QueryColumn::Capacity => Query {
-            capacity: value,
-            ..query
-        },
-        QueryColumn::Deadline => Query {
-            deadline: value,
-            ..query
-        },
-        QueryColumn::Heater => Query {
-            heater: value,
-            ..query
-        },
+        QueryColumn::Start => question.start = value,
+        QueryColumn::Goal => question.goal = value,
+        QueryColumn::Charge => question.charge = value,
+        QueryColumn::Capacity => question.capacity = value,
+        QueryColumn::Deadline => question.deadline = value,
+        QueryColumn::Heater => question.heater = value,
     }
+    question
 }
 
 impl Column for QueryColumn {
-    type Row = Query;
+    type Row = Question;
 
     ghost named = { query_named };
+
+    ghost blank = { blank_query };
 
     ghost filled = { query_filled };
 
@@ -102,7 +68,11 @@ impl Column for QueryColumn {
         }
     }
 
-    fn fill(self, row: Query, _room: u32, field: &[u8]) -> Result<Query, Refusal> {
+    fn blank() -> Question {
+        Question::default()
+    }
+
+    fn fill(self, row: Question, _room: u32, field: &[u8]) -> Result<Question, Refusal> {
         let value = read_value(field)?;
         Ok(with_value(row, self, value))
     }
@@ -110,14 +80,14 @@ impl Column for QueryColumn {
 
 // Reads the query lines that are left behind the queries.
 fn add_lines(
-    queries: &mut Vec<Query>,
+    queries: &mut Vec<Question>,
     columns: &[QueryColumn],
     lines: &mut LineReader,
 ) -> Result<(), ReadFault>
     ensures { FillsInMemory result queries.new.items (lines_read lines.old.file (query_taken columns.now) lines.old.taken queries.old.items (lines_left lines.old)) }
 {
     while let Some(line) = lines.next_line()? {
-        match read_row(columns, 0, BLANK, line) {
+        match read_row(columns, 0, line) {
             Ok(query) => queries.push(query)?,
             Err(fault) => return Err(ReadFault::InFile(lines.fault(fault))),
         }
@@ -126,7 +96,7 @@ fn add_lines(
 }
 
 /// The queries of a query file in the order of its lines, or its first fault from the top.
-pub fn read_queries(heap: Global, text: &[u8]) -> Result<Vec<Query>, ReadFault>
+pub fn read_queries(heap: Global, text: &[u8]) -> Result<Vec<Question>, ReadFault>
     ensures { ReadAs vec_items result (query_list text.now) }
 {
     let mut queries = Vec::new(heap);

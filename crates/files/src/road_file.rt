@@ -12,7 +12,7 @@ ghost use Rattle.files.specs.RoadLaw.{road_lines, MapsTheRoads};
 use crate::columns::{read_names, read_row};
 use crate::fault::{FileFault, FileName, LineFault, ReadFault};
 use crate::lines::LineReader;
-use crate::roads::{RoadColumn, RoadLine};
+use crate::roads::RoadColumn;
 use crate::tables::RoadTables;
 use refusals::refusal::Refusal;
 use std::alloc::Global;
@@ -23,13 +23,6 @@ const ALL: [RoadColumn; 4] = [
     RoadColumn::Seconds,
     RoadColumn::WattHours,
 ];
-
-const BLANK: RoadLine = RoadLine {
-    from: 0,
-    to: 0,
-    seconds: 0,
-    draw: 0,
-};
 
 // Reads one road line into the tables.
 fn fill_line(
@@ -42,7 +35,7 @@ fn fill_line(
     ensures road_put_or_fault { Fills result (tables rows.new) (road_taken room columns.now (tables rows.old) line.now) }
     ensures rows_kept { vec_len rows.new.counts ≡ room }
 {
-    let road = read_row(columns, room, BLANK, line)?;
+    let road = read_row(columns, room, line)?;
     rows.put(road)
 }
 

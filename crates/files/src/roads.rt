@@ -1,6 +1,6 @@
 //! A road line: its columns by name, and the values in them.
 ghost use Rattle.std.specs.Prelude.{◌≡◌};
-ghost use Rattle.files.specs.Roads.{road_named, junction, seconds, watt_hours, road_filled};
+ghost use Rattle.files.specs.Roads.{road_named, junction, seconds, watt_hours, blank_road, road_filled};
 
 use crate::columns::Column;
 use crate::values::{read_signed_value, read_value};
@@ -16,7 +16,7 @@ pub enum RoadColumn {
 }
 
 /// What a road line holds.
-#[derive(Clone, Copy)]
+#[derive(Clone, Copy, Default)]
 pub struct RoadLine {
     pub from: u32,
     pub to: u32,
@@ -59,6 +59,8 @@ impl Column for RoadColumn {
 
     ghost named = { road_named };
 
+    ghost blank = { blank_road };
+
     ghost filled = { road_filled };
 
     fn from_name(name: &[u8]) -> Option<RoadColumn> {
@@ -71,24 +73,17 @@ impl Column for RoadColumn {
         }
     }
 
-    fn fill(self, row: RoadLine, room: u32, field: &[u8]) -> Result<RoadLine, Refusal> {
+    fn blank() -> RoadLine {
+        RoadLine::default()
+    }
+
+    fn fill(self, mut row: RoadLine, room: u32, field: &[u8]) -> Result<RoadLine, Refusal> {
         match self {
-            RoadColumn::From => {
-                let from = read_junction(field, room)?;
-                Ok(RoadLine { from, ..row })
-            }
-            RoadColumn::To => {
-                let to = read_junction(field, room)?;
-                Ok(RoadLine { to, ..row })
-            }
-            RoadColumn::Seconds => {
-                let seconds = read_seconds(field)?;
-                Ok(RoadLine { seconds, ..row })
-            }
-            RoadColumn::WattHours => {
-                let draw = read_watt_hours(field)?;
-                Ok(RoadLine { draw, ..row })
-            }
+            RoadColumn::From => row.from = read_junction(field, room)?,
+            RoadColumn::To => row.to = read_junction(field, room)?,
+            RoadColumn::Seconds => row.seconds = read_seconds(field)?,
+            RoadColumn::WattHours => row.draw = read_watt_hours(field)?,
         }
+        Ok(row)
     }
 }

@@ -2,7 +2,7 @@
 
 /// From where to where, with what charge of what capacity, within how many seconds, with the heater
 /// at how many watts.
-#[derive(Clone, Copy, PartialEq, Eq, Debug)]
+#[derive(Clone, Copy, PartialEq, Eq, Default, Debug)]
 pub struct Question {
     pub start: u32,
     pub goal: u32,

@@ -1,5 +1,7 @@
 //! Takes one line after another from a file.
-ghost use Rattle.std.specs.Prelude.{◌≡◌, ◌==◌, position};
+ghost use Rattle.std.specs.Prelude.{◌≡◌, ◌+◌, ◌==◌, position};
+ghost use Rattle.refusals.specs.declared.refusal.Refusal.TheVariants.{LineNotEnded};
+ghost use Rattle.files.specs.declared.fault.LineFault.TheVariants.{WholeLine};
 ghost use Rattle.files.specs.Faults.{placed};
 ghost use Rattle.files.specs.Lines.{pieces};
 ghost use Rattle.files.specs.LinesLeft.{lines_left, told, next_line, after_line, count_after};
@@ -37,6 +39,13 @@ impl<'a> LineReader<'a> {
         self.fault_at(self.taken, fault)
     }
 
+    // The fault of a last line that no byte 10 ends.
+    fn not_ended(&self) -> FileFault
+        ensures { result ≡ placed self.now.file (self.now.taken + 1) (WholeLine LineNotEnded) }
+    {
+        self.fault_at(self.taken + 1, LineFault::WholeLine(Refusal::LineNotEnded))
+    }
+
     // A fault of the line of this number, with its place.
     fn fault_at(&self, line: usize, fault: LineFault) -> FileFault
         ensures { result ≡ placed self.now.file line fault }
@@ -60,8 +69,7 @@ impl<'a> LineReader<'a> {
             return Ok(None);
         }
         let Some(end) = first_place(left, b'\n') else {
-            let fault = LineFault::WholeLine(Refusal::LineNotEnded);
-            return Err(self.fault_at(self.taken + 1, fault));
+            return Err(self.not_ended());
         };
         self.at += end + 1;
         self.taken += 1;

@@ -13,7 +13,7 @@ returns-in_default c =
     let some : false ≡ eqb (length (take (length t - at) (drop at t))) 0 = c.if-is_empty.ensures in
     let none : None ≡ position (λ x. eqb x 10) (take (length t - at) (drop at t)) = c.in_default.ensures in
     let e = not_ended c.args.self.now.file c.args.self.now.taken (drop at t) (omega (arith, false-eqb _ 0 some, ap length left)) (sym (none ∙ ap (position (λ x. eqb x 10)) left)) in
-    record { line_or_fault = ap Err c.fault_at.ensures ∙ e.answer; later_lines_left = e.after; line_counted = e.count; file_kept = refl }
+    record { line_or_fault = ap Err c.not_ended.ensures ∙ e.answer; later_lines_left = e.after; line_counted = e.count; file_kept = refl }
 
 pub returns : goal.returns
 returns c =
