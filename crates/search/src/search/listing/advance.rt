@@ -1,5 +1,6 @@
 //! Listing the next arrivals of the front.
 ghost use Rattle.std.specs.Prelude.{◌≡◌, ◌+◌, ◌<◌, ◌≤◌, ◌∷◌, length, take, MatchOption};
+ghost use Rattle.std.specs.Result.{result_err};
 ghost use Rattle.promises.specs.Numbers.{tables};
 ghost use Rattle.promises.specs.Advance.{AdvancePromise, advance_check};
 ghost use Rattle.promises.specs.Runs.{History, Run};
@@ -102,26 +103,26 @@ fn put_back<L: Copy>(waiting: &mut [Candidate<L>], used: usize, candidate: Candi
 }
 
 impl Search {
-    // The first check of an advance that fails.
+    // The first check that an advance fails.
     fn check_advance(
         &self,
         junctions: u32,
         labels: usize,
         waiting: usize,
         budget: u32,
-    ) -> Option<Refusal>
-        ensures { result ≡ advance_check (numbers self.now) junctions labels waiting budget }
+    ) -> Result<(), Refusal>
+        ensures { result_err result ≡ advance_check (numbers self.now) junctions labels waiting budget }
     {
         if !self.begun {
-            return Some(Refusal::NotBegun);
+            return Err(Refusal::NotBegun);
         }
         if junctions != self.junctions || labels != self.room as usize || waiting != self.width {
-            return Some(Refusal::NotAsBegun);
+            return Err(Refusal::NotAsBegun);
         }
         if budget == 0 || budget > 65_535 {
-            return Some(Refusal::BudgetOutOfRange);
+            return Err(Refusal::BudgetOutOfRange);
         }
-        None
+        Ok(())
     }
 
     // What an advance answers that found so many labels listed.
@@ -152,16 +153,8 @@ impl Search {
         let at = self.listed;
         put(labels, at as usize, label);
         let used = push_roads(map, kind, label.arrival, at, self.deadline, waiting, left);
-        *self = Search {
-            begun: self.begun,
-            junctions: self.junctions,
-            goal: self.goal,
-            deadline: self.deadline,
-            room: self.room,
-            width: self.width,
-            listed: at + 1,
-            waiting: used,
-        };
+        self.listed = at + 1;
+        self.waiting = used;
         if label.arrival.junction == self.goal {
             return Turn::Arrived;
         }
@@ -209,16 +202,9 @@ impl Search {
         ensures promised { AdvancePromise (M.Map.rows map.now) (K.Kind.meaning kind.now) budget (tables labels.old waiting.old labels.new waiting.new) (numbers self.old) (numbers self.new) result }
         ensures every_run_with_this_call_keeps_the_law { (h : History (K.Load)) → Run h (numbers self.old) → Keeps NothingToldOfCharts (advance_call (M.Map.rows map.now) (K.Kind.meaning kind.now) budget (tables labels.old waiting.old labels.new waiting.new) result ∷ h) }
     {
-        if let Some(refusal) = self.check_advance(
-            map.junctions(),
-            labels.len(),
-            waiting.len(),
-            budget,
-        ) {
-            return Err(refusal);
-        }
+        self.check_advance(map.junctions(), labels.len(), waiting.len(), budget)?;
         let before = self.listed;
-        for i in 0..budget {
+        for _ in 0..budget {
             match self.turn(map, kind, labels, waiting) {
                 Turn::Listed => {}
                 Turn::Arrived => {

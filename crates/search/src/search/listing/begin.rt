@@ -1,5 +1,6 @@
 //! Making a search, and beginning it.
 ghost use Rattle.std.specs.Prelude.{◌≡◌, ◌∷◌, length};
+ghost use Rattle.std.specs.Result.{result_err};
 ghost use Rattle.promises.specs.Numbers.{new_numbers, tables};
 ghost use Rattle.promises.specs.Begin.{BeginPromise, begin_check, query};
 ghost use Rattle.promises.specs.Runs.{History, Run};
@@ -17,7 +18,7 @@ use promises::candidate::Candidate;
 use promises::standing::Standing;
 use refusals::refusal::Refusal;
 
-// The first check of a beginning that fails.
+// The first check that a beginning fails.
 fn check_begin<M: Map, K: Kind>(
     map: &M,
     kind: &K,
@@ -27,29 +28,29 @@ fn check_begin<M: Map, K: Kind>(
     deadline: u32,
     labels: usize,
     waiting: usize,
-) -> Option<Refusal>
-    ensures { result ≡ begin_check (length (M.Map.rows map.now)) ((K.Kind.meaning kind.now).admits load) start goal deadline labels waiting }
+) -> Result<(), Refusal>
+    ensures { result_err result ≡ begin_check (length (M.Map.rows map.now)) ((K.Kind.meaning kind.now).admits load) start goal deadline labels waiting }
 {
     let junctions = map.junctions();
     if start >= junctions {
-        return Some(Refusal::StartOffMap);
+        return Err(Refusal::StartOffMap);
     }
     if goal >= junctions {
-        return Some(Refusal::GoalOffMap);
+        return Err(Refusal::GoalOffMap);
     }
     if !kind.admits(load) {
-        return Some(Refusal::StartLoadNotAdmitted);
+        return Err(Refusal::StartLoadNotAdmitted);
     }
     if deadline > 999_999 {
-        return Some(Refusal::DeadlineTooLate);
+        return Err(Refusal::DeadlineTooLate);
     }
     if labels == 0 || labels > 65_535 {
-        return Some(Refusal::LabelTableSize);
+        return Err(Refusal::LabelTableSize);
     }
     if waiting < 12 * labels {
-        return Some(Refusal::WaitingTableTooShort);
+        return Err(Refusal::WaitingTableTooShort);
     }
-    None
+    Ok(())
 }
 
 impl Search {
@@ -87,9 +88,7 @@ impl Search {
     {
         let room = labels.len();
         let width = waiting.len();
-        if let Some(refusal) = check_begin(map, kind, start, load, goal, deadline, room, width) {
-            return Err(refusal);
-        }
+        check_begin(map, kind, start, load, goal, deadline, room, width)?;
         let arrival = Arrival {
             junction: start,
             time: 0,

@@ -1,62 +1,64 @@
 use Rattle.std.proofs.Common.{length, Ok, Err, sym, refl, ◌∙◌, arith, rules}
+use Rattle.std.proofs.lemmas.Result.{err_from_is_err_and}
 use Rattle.promises.specs.Numbers.{tables}
 use Rattle.search.specs.SearchNumbers.{numbers}
 use Rattle.search.proofs.Turning.{no_turn_yet, lengths, one_turn_more, last_turn_arrived, last_turn_ended, last_turn_full, budget_used}
 use Rattle.search.proofs.Answering.{advance_keeps, advance_accepts, advance_refuses}
 use Rattle.search.proofs.search.Search.advance.Goals as goal
 
-pub returns-in-Some : goal.returns-in-Some
-returns-in-Some g c =
+pub returns-in_err-check_advance : goal.returns-in_err-check_advance
+returns-in_err-check_advance g c =
     let rows = g.M.Map.rows c.args.map.now in let m = g.K.Kind.meaning c.args.kind.now in
-    let s = numbers c.args.self.now in
+    let s = numbers c.args.self.now in let f = c.in_err-check_advance.field-0.0 in
     let t = tables c.args.labels.now c.args.waiting.now c.args.labels.now c.args.waiting.now in
-    advance_keeps rows m c.args.budget t s s (Err c.in-Some.refusal) (advance_refuses rows m c.junctions.result c.args.budget t s s c.in-Some.refusal c.junctions.ensures c.in-Some.ensures (refl, refl, refl))
+    let p = err_from_is_err_and c.from_residual.result c.from_residual.ensures.1 in
+    rw (p.1, p.2) (advance_keeps rows m c.args.budget t s s (Err f) (advance_refuses rows m c.junctions.result c.args.budget t s s f c.junctions.ensures c.in_err-check_advance.ensures (refl, refl, refl)))
 
 pub returns-in-Arrived : goal.returns-in-Arrived
 returns-in-Arrived g c =
     let rows = g.M.Map.rows c.args.map.now in let m = g.K.Kind.meaning c.args.kind.now in
     let s = numbers c.args.self.now in let s' = numbers c.turn.new.self in
     let t = tables c.args.labels.now c.args.waiting.now c.turn.new.labels c.turn.new.waiting in
-    let lens = lengths s c.junctions.result (length c.args.labels.now) (length c.args.waiting.now) c.args.budget c.in_default.ensures in
-    advance_keeps rows m c.args.budget t s s' (Ok c.progress.result) (advance_accepts rows m c.junctions.result c.args.budget t s s' c.progress.result c.junctions.ensures c.in_default.ensures
-    (last_turn_arrived rows m c.loop-i.i s (numbers c.loop-i.self) s' c.args.labels.now c.loop-i.labels c.turn.new.labels c.args.waiting.now c.loop-i.waiting c.turn.new.waiting c.loop-i.invariant c.args.budget c.loop-i-test.true c.progress.result lens.0 (search rules) (search rules) c.in-Arrived.ensures c.progress.ensures))
+    let lens = lengths s c.junctions.result (length c.args.labels.now) (length c.args.waiting.now) c.args.budget c.in_ok-check_advance.ensures in
+    advance_keeps rows m c.args.budget t s s' (Ok c.progress.result) (advance_accepts rows m c.junctions.result c.args.budget t s s' c.progress.result c.junctions.ensures c.in_ok-check_advance.ensures
+    (last_turn_arrived rows m c.loop.counter s (numbers c.loop.self) s' c.args.labels.now c.loop.labels c.turn.new.labels c.args.waiting.now c.loop.waiting c.turn.new.waiting c.loop.invariant c.args.budget c.loop-test.true c.progress.result lens.0 (search rules) (search rules) c.in-Arrived.ensures c.progress.ensures))
 
 pub returns-in-Ended : goal.returns-in-Ended
 returns-in-Ended g c =
     let rows = g.M.Map.rows c.args.map.now in let m = g.K.Kind.meaning c.args.kind.now in
     let s = numbers c.args.self.now in let s' = numbers c.turn.new.self in
     let t = tables c.args.labels.now c.args.waiting.now c.turn.new.labels c.turn.new.waiting in
-    let lens = lengths s c.junctions.result (length c.args.labels.now) (length c.args.waiting.now) c.args.budget c.in_default.ensures in
-    advance_keeps rows m c.args.budget t s s' (Ok c.progress-in-Ended.result) (advance_accepts rows m c.junctions.result c.args.budget t s s' c.progress-in-Ended.result c.junctions.ensures c.in_default.ensures
-    (last_turn_ended rows m c.loop-i.i s (numbers c.loop-i.self) s' c.args.labels.now c.loop-i.labels c.turn.new.labels c.args.waiting.now c.loop-i.waiting c.turn.new.waiting c.loop-i.invariant c.args.budget c.loop-i-test.true c.progress-in-Ended.result lens.0 (search rules) (search rules) c.in-Ended.ensures c.progress-in-Ended.ensures))
+    let lens = lengths s c.junctions.result (length c.args.labels.now) (length c.args.waiting.now) c.args.budget c.in_ok-check_advance.ensures in
+    advance_keeps rows m c.args.budget t s s' (Ok c.progress-in-Ended.result) (advance_accepts rows m c.junctions.result c.args.budget t s s' c.progress-in-Ended.result c.junctions.ensures c.in_ok-check_advance.ensures
+    (last_turn_ended rows m c.loop.counter s (numbers c.loop.self) s' c.args.labels.now c.loop.labels c.turn.new.labels c.args.waiting.now c.loop.waiting c.turn.new.waiting c.loop.invariant c.args.budget c.loop-test.true c.progress-in-Ended.result lens.0 (search rules) (search rules) c.in-Ended.ensures c.progress-in-Ended.ensures))
 
 pub returns-in-Full : goal.returns-in-Full
 returns-in-Full g c =
     let rows = g.M.Map.rows c.args.map.now in let m = g.K.Kind.meaning c.args.kind.now in
     let s = numbers c.args.self.now in let s' = numbers c.turn.new.self in
     let t = tables c.args.labels.now c.args.waiting.now c.turn.new.labels c.turn.new.waiting in
-    let lens = lengths s c.junctions.result (length c.args.labels.now) (length c.args.waiting.now) c.args.budget c.in_default.ensures in
-    advance_keeps rows m c.args.budget t s s' (Ok c.progress-in-Full.result) (advance_accepts rows m c.junctions.result c.args.budget t s s' c.progress-in-Full.result c.junctions.ensures c.in_default.ensures
-    (last_turn_full rows m c.loop-i.i s (numbers c.loop-i.self) s' c.args.labels.now c.loop-i.labels c.turn.new.labels c.args.waiting.now c.loop-i.waiting c.turn.new.waiting c.loop-i.invariant c.args.budget c.loop-i-test.true c.progress-in-Full.result lens.0 (search rules) (search rules) c.in-Full.ensures c.progress-in-Full.ensures))
+    let lens = lengths s c.junctions.result (length c.args.labels.now) (length c.args.waiting.now) c.args.budget c.in_ok-check_advance.ensures in
+    advance_keeps rows m c.args.budget t s s' (Ok c.progress-in-Full.result) (advance_accepts rows m c.junctions.result c.args.budget t s s' c.progress-in-Full.result c.junctions.ensures c.in_ok-check_advance.ensures
+    (last_turn_full rows m c.loop.counter s (numbers c.loop.self) s' c.args.labels.now c.loop.labels c.turn.new.labels c.args.waiting.now c.loop.waiting c.turn.new.waiting c.loop.invariant c.args.budget c.loop-test.true c.progress-in-Full.result lens.0 (search rules) (search rules) c.in-Full.ensures c.progress-in-Full.ensures))
 
-pub loop-i-preserved : goal.loop-i-preserved
-loop-i-preserved g c =
+pub loop-preserved : goal.loop-preserved
+loop-preserved g c =
     let rows = g.M.Map.rows c.args.map.now in let m = g.K.Kind.meaning c.args.kind.now in
-    one_turn_more rows m c.loop-i.i (numbers c.args.self.now) (numbers c.loop-i.self) (numbers c.turn.new.self) c.args.labels.now c.loop-i.labels c.turn.new.labels c.args.waiting.now c.loop-i.waiting c.turn.new.waiting c.loop-i.invariant c.in-Listed.ensures
+    one_turn_more rows m c.loop.counter (numbers c.args.self.now) (numbers c.loop.self) (numbers c.turn.new.self) c.args.labels.now c.loop.labels c.turn.new.labels c.args.waiting.now c.loop.waiting c.turn.new.waiting c.loop.invariant c.in-Listed.ensures
 
-pub loop-i-init : goal.loop-i-init
-loop-i-init g c = no_turn_yet _ _ _ _ _
+pub loop-init : goal.loop-init
+loop-init g c = no_turn_yet _ _ _ _ _
 
 pub returns : goal.returns
 returns g c =
     let rows = g.M.Map.rows c.args.map.now in let m = g.K.Kind.meaning c.args.kind.now in
-    let s = numbers c.args.self.now in let s' = numbers c.loop-i.self in let p = c.progress-2.result in
-    let t = tables c.args.labels.now c.args.waiting.now c.loop-i.labels c.loop-i.waiting in
-    let lens = lengths s c.junctions.result (length c.args.labels.now) (length c.args.waiting.now) c.args.budget c.in_default.ensures in
-    advance_keeps rows m c.args.budget t s s' (Ok p) (advance_accepts rows m c.junctions.result c.args.budget t s s' p c.junctions.ensures c.in_default.ensures
-    (budget_used rows m c.args.budget c.loop-i.i s s' c.args.labels.now c.loop-i.labels c.args.waiting.now c.loop-i.waiting c.loop-i.invariant (omega (arith, c.loop-i-test.false, c.loop-i.auto.i-end)) c.loop-i.self.sized.0 p lens.0 (search rules) (search rules) c.progress-2.ensures))
+    let s = numbers c.args.self.now in let s' = numbers c.loop.self in let p = c.progress-2.result in
+    let t = tables c.args.labels.now c.args.waiting.now c.loop.labels c.loop.waiting in
+    let lens = lengths s c.junctions.result (length c.args.labels.now) (length c.args.waiting.now) c.args.budget c.in_ok-check_advance.ensures in
+    advance_keeps rows m c.args.budget t s s' (Ok p) (advance_accepts rows m c.junctions.result c.args.budget t s s' p c.junctions.ensures c.in_ok-check_advance.ensures
+    (budget_used rows m c.args.budget c.loop.counter s s' c.args.labels.now c.loop.labels c.args.waiting.now c.loop.waiting c.loop.invariant (omega (arith, c.loop-test.false, c.loop.auto.counter-end)) c.loop.self.sized.0 p lens.0 (search rules) (search rules) c.progress-2.ensures))
 
 pub turn-requires : goal.turn-requires
 turn-requires g c =
-    let lens = lengths (numbers c.args.self.now) c.junctions.result (length c.args.labels.now) (length c.args.waiting.now) c.args.budget c.in_default.ensures in
-    (c.loop-i.auto.labels ∙ (lens.0 ∙ sym c.loop-i.invariant.keeps_its_query.room), c.loop-i.auto.waiting ∙ (lens.1 ∙ sym c.loop-i.invariant.keeps_its_query.width))
+    let lens = lengths (numbers c.args.self.now) c.junctions.result (length c.args.labels.now) (length c.args.waiting.now) c.args.budget c.in_ok-check_advance.ensures in
+    (c.loop.auto.labels ∙ (lens.0 ∙ sym c.loop.invariant.keeps_its_query.room), c.loop.auto.waiting ∙ (lens.1 ∙ sym c.loop.invariant.keeps_its_query.width))
