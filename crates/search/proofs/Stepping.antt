@@ -4,6 +4,7 @@ use Rattle.std.specs.List.{ContainsAt as Has}
 use Rattle.std.proofs.ByRecursion.{has_push}
 use Rattle.std.proofs.lemmas.List.{length-take-le, take_more_set, take-set, drop-set-lt, get_or-set_same}
 use Rattle.std.proofs.lemmas.Bool.{eqb-true, eqb-false}
+use Rattle.std.specs.Bool.{then_some}
 use Rattle.maps.specs.Rows.{Rows}
 use Rattle.loads.specs.Meaning.{Meaning}
 use Rattle.front.specs.declared.label.Label.{Label}
@@ -18,13 +19,13 @@ use Rattle.front.proofs.Steps.{listing_keeps_the_invariant, dropping_served_cand
 use Rattle.front.proofs.ListedLabels.{nothing_waits_so_the_front_is_listed}
 use Rattle.queue.specs.Heaps.{Heaped, Least}
 use Rattle.promises.specs.declared.candidate.Candidate.{Candidate}
-use Rattle.search.specs.declared.turn.Turn.{Turn}
-use Rattle.search.specs.declared.turn.Turn.TheVariants as turn
+use Rattle.promises.specs.declared.standing.Standing.{Standing}
+use Rattle.promises.specs.declared.standing.Standing.TheVariants.{Arrived, Ended, Full}
 use Rattle.promises.specs.Numbers.{Numbers}
 use Rattle.promises.specs.Order.{leaves_before}
 use Rattle.search.specs.Steps.{offer, GrownBy, Dropped, Taken, EachServed}
 use Rattle.promises.specs.StandsFor.{labels_of, StandsFor}
-use Rattle.search.specs.Turns.{Turned, NothingWaitsIfEnded, listed_by, TurnedFor, TurnSays, listed_turn, Lists}
+use Rattle.search.specs.Turns.{Turned, listed_by, TurnedFor, TurnSays, Lists}
 use Rattle.promises.specs.Numbers.{KeepsItsQuery, tables}
 use Rattle.search.proofs.Queueing.{has_there, has_cons, has_none, heaped_zero}
 use Rattle.search.proofs.OnTheFront.{dropped_thins, next, spreads, offer_leads}
@@ -50,7 +51,7 @@ module _ {L : Type 0} (q : Query L) (s : Numbers) (ls : List (Label L)) (ws : Li
   number = sym (length-take-le s.listed ls st.listed_within_the_table)
 
   -- nothing waits that is not served
-  pub ended : (s' : Numbers) (ws' : List (Candidate L)) → KeepsItsQuery s s' → s'.listed ≡ s.listed → s'.waiting ≡ 0 → length ws' ≡ length ws → Heaped leaves_before ws' s'.waiting → EachServed q.kind (take s.listed ls) (take s.waiting ws) → TurnedFor q (tables ls ws ls ws') s s' turn.Ended
+  pub ended : (s' : Numbers) (ws' : List (Candidate L)) → KeepsItsQuery s s' → s'.listed ≡ s.listed → s'.waiting ≡ 0 → length ws' ≡ length ws → Heaped leaves_before ws' s'.waiting → EachServed q.kind (take s.listed ls) (take s.waiting ws) → TurnedFor q (tables ls ws ls ws') s s' (Some Ended)
   ended s' ws' n el ez ew hp all = record { stands = stands_again q s s' ls ls ws ws' st n refl ew (omega (arith, el, st.listed_within_the_table)) hp ranked' front'; says = λ a u. subst (λ (k : ℕ). Has (arrivals (take k ls)) a) (sym el) ((nothing_waits_so_the_front_is_listed q st.valid (take s.listed ls) none).all a u) }
     where
       drop : Dropped q.kind (take s.listed ls) (take s.waiting ws) []
@@ -80,7 +81,7 @@ module _ {L : Type 0} (q : Query L) (s : Numbers) (ls : List (Label L)) (ws : Li
 
     -- no label is free for the next arrival
     pub full : (s' : Numbers) (ws' : List (Candidate L)) → KeepsItsQuery s s' → s'.listed ≡ s.listed → s.listed ≡ s.room → length ws' ≡ length ws → Heaped leaves_before ws' s'.waiting
-        → ((d : Candidate L) → Has (c ∷ cs) d → Has (take s'.waiting ws') d) → ((d : Candidate L) → Has (take s'.waiting ws') d → Has (c ∷ cs) d) → TurnedFor q (tables ls ws ls ws') s s' turn.Full
+        → ((d : Candidate L) → Has (c ∷ cs) d → Has (take s'.waiting ws') d) → ((d : Candidate L) → Has (take s'.waiting ws') d → Has (c ∷ cs) d) → TurnedFor q (tables ls ws ls ws') s s' (Some Full)
     full s' ws' n el er ew hp to from = record { stands = stands_again q s s' ls ls ws ws' st n refl ew (omega (arith, el, st.listed_within_the_table)) hp (λ d h. ranked_in d (from d h)) front'; says = (el ∙ (er ∙ st.room), (c.label.arrival, next_candidate_is_unbeaten q st.valid (take s.listed ls) (labels_of (c ∷ cs)) c.label thinned is_next, λ h. not_listed (subst (λ (k : ℕ). Has (arrivals (take k ls)) c.label.arrival) el h))) }
       where
         drop : Dropped q.kind (take s.listed ls) (take s.waiting ws) (take s'.waiting ws')
@@ -90,11 +91,11 @@ module _ {L : Type 0} (q : Query L) (s : Numbers) (ls : List (Label L)) (ws : Li
         front' = subst (λ (k : ℕ). Invariant q (take k ls) (labels_of (take s'.waiting ws'))) (sym el) (dropping_served_candidates_keeps_the_invariant q (take s.listed ls) (labels_of (take s.waiting ws)) (labels_of (take s'.waiting ws')) st.invariant (dropped_thins q.kind q refl (take s.listed ls) (take s.waiting ws) (take s'.waiting ws') drop))
 
     -- the next arrival is listed
-    pub listed : (s' : Numbers) (ws₁ ws' : List (Candidate L)) (ls' : List (Label L)) (r : Turn) → KeepsItsQuery s s' → s'.listed ≡ s.listed + 1 → s.listed < s.room → ls' ≡ set ls s.listed c.label → length ws' ≡ length ws → Heaped leaves_before ws' s'.waiting
-        → GrownBy (offer q.rows q.kind q.deadline c.label.arrival s.listed) 12 cs (take s'.waiting ws') → r ≡ listed_turn (eqb c.label.arrival.junction s.goal) → TurnedFor q (tables ls ws ls' ws') s s' r
+    pub listed : (s' : Numbers) (ws₁ ws' : List (Candidate L)) (ls' : List (Label L)) (r : Option Standing) → KeepsItsQuery s s' → s'.listed ≡ s.listed + 1 → s.listed < s.room → ls' ≡ set ls s.listed c.label → length ws' ≡ length ws → Heaped leaves_before ws' s'.waiting
+        → GrownBy (offer q.rows q.kind q.deadline c.label.arrival s.listed) 12 cs (take s'.waiting ws') → r ≡ then_some (eqb c.label.arrival.junction s.goal) (Arrived s.listed) → TurnedFor q (tables ls ws ls' ws') s s' r
     listed s' ws₁ ws' ls' r n el lt e ew hp g answer = record {
       stands = stands_again q s s' ls ls' ws ws' st n (ap length e ∙ length-set ls s.listed c.label) ew (omega (arith, el, inside, ap length e ∙ length-set ls s.listed c.label)) hp ranked' front';
-      says = subst (λ (x : Turn). TurnSays q s.listed s'.listed ls' x) (sym answer) (says' (eqb c.label.arrival.junction s.goal) refl);
+      says = subst (λ (x : Option Standing). TurnSays q s.listed s'.listed ls' x) (sym answer) (says' (eqb c.label.arrival.junction s.goal) refl);
     }
       where
         inside : s.listed < length ls
@@ -125,8 +126,8 @@ module _ {L : Type 0} (q : Query L) (s : Numbers) (ls : List (Label L)) (ws : Li
         the_label : (x : Label L) → Stored ls' s.listed x → c.label ≡ x
         the_label x p = sym (get_or-set_same ls s.listed c.label x inside) ∙ (ap (λ (v : List (Label L)). get_or v s.listed x) (sym e) ∙ p.1 x)
 
-        says' : (t : Bool) → eqb c.label.arrival.junction s.goal ≡ t → TurnSays q s.listed s'.listed ls' (listed_turn t)
-        says' true h = λ x p. ap (λ (y : Label L). y.arrival.junction) (sym (the_label x p)) ∙ (eqb-true _ _ h ∙ st.goal)
+        says' : (t : Bool) → eqb c.label.arrival.junction s.goal ≡ t → TurnSays q s.listed s'.listed ls' (then_some t (Arrived s.listed))
+        says' true h = (refl, λ x p. ap (λ (y : Label L). y.arrival.junction) (sym (the_label x p)) ∙ (eqb-true _ _ h ∙ st.goal))
         says' false h = λ x p j. eqb-false _ _ h (ap (λ (y : Label L). y.arrival.junction) (the_label x p) ∙ (j ∙ sym st.goal))
 
 pub by_none : {X : Type 0} (o : Option X) (P : Type 0) (Q : X → Type 0) → o ≡ None → MatchOption o P Q → P
@@ -135,17 +136,17 @@ by_none o P Q e p = subst (λ t. MatchOption t P Q) e p
 pub by_some : {X : Type 0} (o : Option X) (x : X) (P : Type 0) (Q : X → Type 0) → o ≡ Some x → MatchOption o P Q → Q x
 by_some o x P Q e p = subst (λ t. MatchOption t P Q) e p
 
-one_listed : (b : Bool) → listed_by (listed_turn b) ≡ 1
-one_listed true = refl
-one_listed false = refl
+one_listed : (b : Bool) (n : ℕ) → listed_by (then_some b (Arrived n)) ≡ 1
+one_listed true n = refl
+one_listed false n = refl
 
-none_emptied : (b : Bool) (w : ℕ) → NothingWaitsIfEnded (listed_turn b) w
-none_emptied true w = tt
-none_emptied false w = tt
+not_ended : (b : Bool) (n : ℕ) → then_some b (Arrived n) ≡ Some Ended → ⊥
+not_ended true n e = cc
+not_ended false n e = cc
 
 module _ {L : Type 0} (rows : Rows) (m : Meaning L) (ls : List (Label L)) (ws : List (Candidate L)) (s s' : Numbers) (fits : s.listed ≤ s.room) where
-  pub turn_ended : (ws' : List (Candidate L)) → EachServed m (take s.listed ls) (take s.waiting ws) → KeepsItsQuery s s' → s'.listed ≡ s.listed → s'.waiting ≡ 0 → length ws' ≡ length ws → Turned rows m (tables ls ws ls ws') s s' turn.Ended
-  turn_ended ws' all n el ez ew = record { count = omega (arith, el); within = omega (arith, el, fits, n.room); keeps_its_query = n; earlier_untouched = refl; later_untouched = refl; still = λ _. ez; nothing_waits_if_ended = ez; for_its_query = λ q er ek st. ended q s ls ws st s' ws' n el ez ew (subst (λ (k : ℕ). Heaped leaves_before ws' k) (sym ez) (heaped_zero leaves_before ws')) (subst (λ (k : Meaning L). EachServed k (take s.listed ls) (take s.waiting ws)) (sym ek) all) }
+  pub turn_ended : (ws' : List (Candidate L)) → EachServed m (take s.listed ls) (take s.waiting ws) → KeepsItsQuery s s' → s'.listed ≡ s.listed → s'.waiting ≡ 0 → length ws' ≡ length ws → Turned rows m (tables ls ws ls ws') s s' (Some Ended)
+  turn_ended ws' all n el ez ew = record { count = omega (arith, el); within = omega (arith, el, fits, n.room); keeps_its_query = n; earlier_untouched = refl; later_untouched = refl; still = λ _. ez; nothing_waits_once_ended = λ _. ez; for_its_query = λ q er ek st. ended q s ls ws st s' ws' n el ez ew (subst (λ (k : ℕ). Heaped leaves_before ws' k) (sym ez) (heaped_zero leaves_before ws')) (subst (λ (k : Meaning L). EachServed k (take s.listed ls) (take s.waiting ws)) (sym ek) all) }
 
   module _ (left : ℕ) (ws₁ : List (Candidate L)) (c : Candidate L) (lt : left < s.waiting) (tk : Taken m (take s.listed ls) (take s.waiting ws) c (take left ws₁))
       (hp : Heaped leaves_before ws s.waiting → Heaped leaves_before ws₁ left) (least : Heaped leaves_before ws s.waiting → Least leaves_before c (c ∷ take left ws₁)) where
@@ -153,11 +154,11 @@ module _ {L : Type 0} (rows : Rows) (m : Meaning L) (ls : List (Label L)) (ws : 
     taken q ek = subst (λ (k : Meaning L). Taken k (take s.listed ls) (take s.waiting ws) c (take left ws₁)) (sym ek) tk
 
     pub turn_full : (ws' : List (Candidate L)) → KeepsItsQuery s s' → s'.listed ≡ s.listed → s.listed ≡ s.room → length ws' ≡ length ws → (Heaped leaves_before ws₁ left → Heaped leaves_before ws' s'.waiting)
-        → ((d : Candidate L) → Has (c ∷ take left ws₁) d → Has (take s'.waiting ws') d) → ((d : Candidate L) → Has (take s'.waiting ws') d → Has (c ∷ take left ws₁) d) → Turned rows m (tables ls ws ls ws') s s' turn.Full
-    turn_full ws' n el er ew hp' to from = record { count = omega (arith, el); within = omega (arith, el, fits, n.room); keeps_its_query = n; earlier_untouched = refl; later_untouched = refl; still = λ z. absurd (omega (arith, z, lt)); nothing_waits_if_ended = tt; for_its_query = λ q eq ek st. full q s ls ws st c (take left ws₁) (taken q ek) (least st.waiting_in_heap_order) s' ws' n el er ew (hp' (hp st.waiting_in_heap_order)) to from }
+        → ((d : Candidate L) → Has (c ∷ take left ws₁) d → Has (take s'.waiting ws') d) → ((d : Candidate L) → Has (take s'.waiting ws') d → Has (c ∷ take left ws₁) d) → Turned rows m (tables ls ws ls ws') s s' (Some Full)
+    turn_full ws' n el er ew hp' to from = record { count = omega (arith, el); within = omega (arith, el, fits, n.room); keeps_its_query = n; earlier_untouched = refl; later_untouched = refl; still = λ z. absurd (omega (arith, z, lt)); nothing_waits_once_ended = λ e. cc; for_its_query = λ q eq ek st. full q s ls ws st c (take left ws₁) (taken q ek) (least st.waiting_in_heap_order) s' ws' n el er ew (hp' (hp st.waiting_in_heap_order)) to from }
 
-    pub turn_listed : (ls' : List (Label L)) (ws' : List (Candidate L)) (r : Turn) → s.listed < s.room → Lists rows m (tables ls ws₁ ls' ws') s s' left c.label r → length ws' ≡ length ws → Turned rows m (tables ls ws ls' ws') s s' r
-    turn_listed ls' ws' r room l ew = record { count = l.count ∙ ap (λ (k : ℕ). s.listed + k) (sym (ap listed_by l.answer ∙ one_listed _)); within = omega (arith, l.count, l.keeps_its_query.room, room); keeps_its_query = l.keeps_its_query; earlier_untouched = ap (take s.listed) l.labels ∙ take-set ls s.listed c.label; later_untouched = ap (drop s'.listed) l.labels ∙ drop-set-lt s'.listed ls s.listed c.label (omega (arith, l.count)); still = λ z. absurd (omega (arith, z, lt)); nothing_waits_if_ended = subst (λ (x : Turn). NothingWaitsIfEnded x s'.waiting) (sym l.answer) (none_emptied (eqb c.label.arrival.junction s.goal) s'.waiting); for_its_query = λ q er ek st. listed q s ls ws st c (take left ws₁) (taken q ek) (least st.waiting_in_heap_order) s' ws₁ ws' ls' r l.keeps_its_query l.count room l.labels ew (l.heaped (hp st.waiting_in_heap_order)) (grown q er ek st.deadline) l.answer }
+    pub turn_listed : (ls' : List (Label L)) (ws' : List (Candidate L)) (r : Option Standing) → s.listed < s.room → Lists rows m (tables ls ws₁ ls' ws') s s' left c.label r → length ws' ≡ length ws → Turned rows m (tables ls ws ls' ws') s s' r
+    turn_listed ls' ws' r room l ew = record { count = l.count ∙ ap (λ (k : ℕ). s.listed + k) (sym (ap listed_by l.answer ∙ one_listed _ s.listed)); within = omega (arith, l.count, l.keeps_its_query.room, room); keeps_its_query = l.keeps_its_query; earlier_untouched = ap (take s.listed) l.labels ∙ take-set ls s.listed c.label; later_untouched = ap (drop s'.listed) l.labels ∙ drop-set-lt s'.listed ls s.listed c.label (omega (arith, l.count)); still = λ z. absurd (omega (arith, z, lt)); nothing_waits_once_ended = λ e. absurd (not_ended _ s.listed (sym l.answer ∙ e)); for_its_query = λ q er ek st. listed q s ls ws st c (take left ws₁) (taken q ek) (least st.waiting_in_heap_order) s' ws₁ ws' ls' r l.keeps_its_query l.count room l.labels ew (l.heaped (hp st.waiting_in_heap_order)) (grown q er ek st.deadline) l.answer }
       where
         grown : (q : Query L) → q.rows ≡ rows → q.kind ≡ m → s.deadline ≡ q.deadline → GrownBy (offer q.rows q.kind q.deadline c.label.arrival s.listed) 12 (take left ws₁) (take s'.waiting ws')
         grown q er ek ed = subst (λ (x : Rows). GrownBy (offer x q.kind q.deadline c.label.arrival s.listed) 12 (take left ws₁) (take s'.waiting ws')) (sym er) (subst (λ (x : Meaning L). GrownBy (offer rows x q.deadline c.label.arrival s.listed) 12 (take left ws₁) (take s'.waiting ws')) (sym ek) (subst (λ (x : ℕ). GrownBy (offer rows m x c.label.arrival s.listed) 12 (take left ws₁) (take s'.waiting ws')) ed l.grown))

@@ -1,5 +1,5 @@
 -- The turns of an advance, one after the other.
-use Rattle.std.proofs.Common.{◌≡◌, ℕ, ◌+◌, ◌-◌, ◌<◌, ◌≤◌, not, ◌&&◌, eqb, List, length, take, drop, None, sym, refl, ap, ◌∙◌, subst, ⊎_elim, arith}
+use Rattle.std.proofs.Common.{◌≡◌, ℕ, ◌+◌, ◌-◌, ◌<◌, ◌≤◌, not, ◌&&◌, eqb, List, length, take, drop, Some, None, Option, sym, refl, ap, ◌∙◌, subst, ⊎_elim, arith}
 use Rattle.std.proofs.lemmas.List.{take-take, drop-drop}
 use Rattle.std.proofs.lemmas.Bool.{cases_lt, eqb-true, and_parts, not-false}
 use Rattle.maps.specs.Rows.{Rows}
@@ -18,9 +18,7 @@ use Rattle.promises.specs.Numbers.{Numbers, KeepsItsQuery, tables}
 use Rattle.promises.specs.StandsFor.{StandsFor}
 use Rattle.promises.specs.Advance.{NoneAt, StandingSays, Advanced, advance_check}
 use Rattle.promises.proofs.Records.{stored_back}
-use Rattle.search.specs.declared.turn.Turn.{Turn}
-use Rattle.search.specs.declared.turn.Turn.TheVariants as turn
-use Rattle.search.specs.Turns.{Turned, TurnedFor}
+use Rattle.search.specs.Turns.{Turned, TurnSays, listed_by}
 use Rattle.search.proofs.Beginning.{passes}
 
 -- an advance under way that found a labels listed: none listed since is at the goal
@@ -54,7 +52,7 @@ same_later {X} m n xs ys le e =
 
 module _ {L : Type 0} (rows : Rows) (m : Meaning L) (i : ℕ) (s₀ s s' : Numbers) (ls₀ ls ls' : List (Label L)) (ws₀ ws ws' : List (Candidate L)) (inv : AfterTurns rows m i s₀ ls₀ ws₀ s ls ws) where
   -- what a turn leaves of what the turns before it left
-  module _ (r : Turn) (t : Turned rows m (tables ls ws ls' ws') s s' r) where
+  module _ (r : Option Standing) (t : Turned rows m (tables ls ws ls' ws') s s' r) where
     keeps : KeepsItsQuery s₀ s'
     keeps = let n = t.keeps_its_query in let o = inv.keeps_its_query in record { begun = n.begun ∙ o.begun; junctions = n.junctions ∙ o.junctions; goal = n.goal ∙ o.goal; deadline = n.deadline ∙ o.deadline; room = n.room ∙ o.room; width = n.width ∙ o.width }
 
@@ -69,55 +67,54 @@ module _ {L : Type 0} (rows : Rows) (m : Meaning L) (i : ℕ) (s₀ s s' : Numbe
     none_kept : (q : Query L) → UnderWay q s₀.listed s ls ws → NoneAt ls' s₀.listed s.listed q.goal
     none_kept q u i x lo hi p g = u.none i x lo hi (stored_back ls' ls s.listed i x hi u.stands.listed_within_the_table t.earlier_untouched p) g
 
-  pub one_turn_more : Turned rows m (tables ls ws ls' ws') s s' turn.Listed → AfterTurns rows m (i + 1) s₀ ls₀ ws₀ s' ls' ws'
+  pub one_turn_more : Turned rows m (tables ls ws ls' ws') s s' None → AfterTurns rows m (i + 1) s₀ ls₀ ws₀ s' ls' ws'
   one_turn_more t = record {
     count = omega (arith, inv.count, t.count);
-    keeps_its_query = keeps turn.Listed t;
-    earlier_untouched = earlier turn.Listed t;
-    later_untouched = later turn.Listed t;
+    keeps_its_query = keeps None t;
+    earlier_untouched = earlier None t;
+    later_untouched = later None t;
     still = λ z. t.still (inv.still z);
     under_way = λ q er ek st. let u = inv.under_way q er ek st in let d = t.for_its_query q er ek u.stands in
-        record { stands = d.stands; none = λ j x lo hi p g. ⊎_elim (λ l. none_kept turn.Listed t q u j x lo l p g) (λ l. let z : j ≡ s.listed = omega (arith, l, hi, t.count) in d.says x (subst (λ k. Stored ls' k x) z p) g) (cases_lt j s.listed) };
+        record { stands = d.stands; none = λ j x lo hi p g. ⊎_elim (λ l. none_kept None t q u j x lo l p g) (λ l. let z : j ≡ s.listed = omega (arith, l, hi, t.count) in d.says x (subst (λ k. Stored ls' k x) z p) g) (cases_lt j s.listed) };
   }
 
   module _ (budget : ℕ) (lt : i < budget) (p : Progress) (lens : length ls₀ ≡ s₀.room) (el : length ls' ≡ length ls₀) (ew : length ws' ≡ length ws₀) where
-    -- the turn that ends the advance
-    last_turn : (r : Turn) (answer : Standing) (t : Turned rows m (tables ls ws ls' ws') s s' r) → s'.listed ≤ s₀.listed + budget → (p.standing ≡ answer) × (s₀.listed + p.listed_now ≡ s'.listed) × (p.listed_in_all ≡ s'.listed)
-        → (answer ≡ Ended → s'.waiting ≡ 0)
-        → ((q : Query L) → UnderWay q s₀.listed s ls ws → TurnedFor q (tables ls ws ls' ws') s s' r → StandingSays q budget ls' s₀.listed s'.listed answer) → Advanced rows m budget (tables ls₀ ws₀ ls' ws') s₀ s' p
-    last_turn r answer t most c ended says = record {
+    -- what the turn that ends the advance says is what its standing says of the advance
+    standing : (answer : Standing) (t : Turned rows m (tables ls ws ls' ws') s s' (Some answer)) (q : Query L) → UnderWay q s₀.listed s ls ws → TurnSays q s.listed s'.listed ls' (Some answer) → StandingSays q budget ls' s₀.listed s'.listed answer
+    standing Paused t q u says = absurd says
+    standing (Arrived n) t q u says = (omega (arith, says.0, inv.count), omega (arith, says.0, t.count), (λ j x lo hi st g. none_kept (Some (Arrived n)) t q u j x lo (omega (arith, hi, says.0)) st g), λ x st. says.1 x (subst (λ k. Stored ls' k x) says.0 st))
+    standing Ended t q u says =
+        let e : s'.listed ≡ s.listed = omega (arith, t.count) in
+        (omega (arith, e, inv.count, lt), subst (λ k. NoneAt ls' s₀.listed k q.goal) (sym e) (none_kept (Some Ended) t q u), says)
+    standing Full t q u says =
+        let e : s'.listed ≡ s.listed = omega (arith, t.count) in
+        (omega (arith, e, inv.count, lt), subst (λ k. NoneAt ls' s₀.listed k q.goal) (sym e) (none_kept (Some Full) t q u), says.0, says.1)
+
+    at_most_one : (answer : Standing) → listed_by (Some answer) ≤ 1
+    at_most_one Paused = omega arith
+    at_most_one (Arrived n) = omega arith
+    at_most_one Ended = omega arith
+    at_most_one Full = omega arith
+
+    pub last_turn : (answer : Standing) → Turned rows m (tables ls ws ls' ws') s s' (Some answer) → (p.standing ≡ answer) × (s₀.listed + p.listed_now ≡ s'.listed) × (p.listed_in_all ≡ s'.listed) → Advanced rows m budget (tables ls₀ ws₀ ls' ws') s₀ s' p
+    last_turn answer t c = record {
       counts_all_listed = c.2;
       counts_those_listed_now = sym c.1;
-      lists_within_the_budget = omega (arith, c.1, most);
+      lists_within_the_budget = omega (arith, c.1, t.count, inv.count, lt, at_most_one answer);
       lists_within_the_table = omega (arith, t.within, t.keeps_its_query.room, inv.keeps_its_query.room, lens, el);
       labels_keep_their_length = el;
       waiting_keeps_its_length = ew;
-      earlier_labels_untouched = earlier r t;
-      later_labels_untouched = later r t;
-      keeps_its_query = keeps r t;
+      earlier_labels_untouched = earlier (Some answer) t;
+      later_labels_untouched = later (Some answer) t;
+      keeps_its_query = keeps (Some answer) t;
       nothing_comes_to_wait_once_nothing_waits = λ z. t.still (inv.still z);
-      nothing_waits_once_ended = λ e. ended (sym c.0 ∙ e);
+      nothing_waits_once_ended = λ e. t.nothing_waits_once_ended (ap Some (sym c.0 ∙ e));
       for_its_query = λ q er ek st. let u = inv.under_way q er ek st in let d = t.for_its_query q er ek u.stands in record {
         listed_labels_begin_the_front = subst (λ n. FrontBegins q (arrivals (take n ls'))) (sym c.2) d.stands.invariant.listed_begin_the_front;
-        standing_says = subst (λ x. StandingSays q budget ls' s₀.listed s'.listed x) (sym c.0) (says q u d);
+        standing_says = subst (λ x. StandingSays q budget ls' s₀.listed s'.listed x) (sym c.0) (standing answer t q u d.says);
         stands = d.stands;
       };
     }
-
-    pub last_turn_arrived : Turned rows m (tables ls ws ls' ws') s s' turn.Arrived → (p.standing ≡ Arrived (s'.listed - 1)) × (s₀.listed + p.listed_now ≡ s'.listed) × (p.listed_in_all ≡ s'.listed) → Advanced rows m budget (tables ls₀ ws₀ ls' ws') s₀ s' p
-    last_turn_arrived t c = last_turn turn.Arrived (Arrived (s'.listed - 1)) t (omega (arith, t.count, inv.count, lt)) c (λ e. absurd (let z : ◌≡◌ {A = ℕ} 0 1 = cc e in omega (arith, z)))
-        (λ q u d. let z : s'.listed - 1 ≡ s.listed = omega (arith, t.count) in
-        (omega (arith, inv.count, t.count), omega (arith, t.count), (λ j x lo hi st g. none_kept turn.Arrived t q u j x lo (omega (arith, hi, z)) st g), λ x st. d.says x (subst (λ k. Stored ls' k x) z st)))
-
-    pub last_turn_ended : Turned rows m (tables ls ws ls' ws') s s' turn.Ended → (p.standing ≡ Ended) × (s₀.listed + p.listed_now ≡ s'.listed) × (p.listed_in_all ≡ s'.listed) → Advanced rows m budget (tables ls₀ ws₀ ls' ws') s₀ s' p
-    last_turn_ended t c = last_turn turn.Ended Ended t (omega (arith, t.count, inv.count, lt)) c (λ e. t.nothing_waits_if_ended)
-        (λ q u d. let n : s'.listed ≡ s.listed = omega (arith, t.count) in
-        (omega (arith, n, inv.count, lt), subst (λ k. NoneAt ls' s₀.listed k q.goal) (sym n) (none_kept turn.Ended t q u), d.says))
-
-    pub last_turn_full : Turned rows m (tables ls ws ls' ws') s s' turn.Full → (p.standing ≡ Full) × (s₀.listed + p.listed_now ≡ s'.listed) × (p.listed_in_all ≡ s'.listed) → Advanced rows m budget (tables ls₀ ws₀ ls' ws') s₀ s' p
-    last_turn_full t c = last_turn turn.Full Full t (omega (arith, t.count, inv.count, lt)) c (λ e. absurd (let z : ◌≡◌ {A = ℕ} 0 1 = cc e in omega (arith, z)))
-        (λ q u d. let n : s'.listed ≡ s.listed = omega (arith, t.count) in
-        (omega (arith, n, inv.count, lt), subst (λ k. NoneAt ls' s₀.listed k q.goal) (sym n) (none_kept turn.Full t q u), d.says.0, d.says.1))
 
 -- the budget is used
 pub budget_used : {L : Type 0} (rows : Rows) (m : Meaning L) (budget i : ℕ) (s₀ s : Numbers) (ls₀ ls : List (Label L)) (ws₀ ws : List (Candidate L)) → AfterTurns rows m i s₀ ls₀ ws₀ s ls ws → i ≡ budget → s.listed ≤ s.room → (p : Progress) → length ls₀ ≡ s₀.room → length ls ≡ length ls₀ → length ws ≡ length ws₀

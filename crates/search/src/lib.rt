@@ -2,6 +2,5 @@
 #![tactic(auto)]
 
 pub mod search;
-mod turn;
 
 pub use search::Search;

@@ -15,7 +15,6 @@ ghost use Rattle.search.specs.Steps.{label_serves, served_by, offer, Taken, Each
 
 use super::{push_roads, put};
 use crate::search::Search;
-use crate::turn::Turn;
 use front::label::Label;
 use loads::Kind;
 use maps::Map;
@@ -137,7 +136,7 @@ impl Search {
         }
     }
 
-    // Lists a label, and lets what its roads offer wait.
+    // Lists a label, lets what its roads offer wait, and tells whether it is at the goal.
     fn list<M: Map, K: Kind>(
         &mut self,
         map: &M,
@@ -146,7 +145,7 @@ impl Search {
         waiting: &mut [Candidate<K::Load>],
         left: usize,
         label: Label<K::Load>,
-    ) -> Turn
+    ) -> Option<Standing>
         requires { (length labels.old ≡ self.old.room) × ((length waiting.old ≡ self.old.width) × ((self.old.listed < self.old.room) × (left ≤ self.old.waiting))) }
         ensures { Lists (M.Map.rows map.now) (K.Kind.meaning kind.now) (tables labels.old waiting.old labels.new waiting.new) (numbers self.old) (numbers self.new) left label result }
     {
@@ -155,20 +154,17 @@ impl Search {
         let used = push_roads(map, kind, label.arrival, at, self.deadline, waiting, left);
         self.listed = at + 1;
         self.waiting = used;
-        if label.arrival.junction == self.goal {
-            return Turn::Arrived;
-        }
-        Turn::Listed
+        (label.arrival.junction == self.goal).then_some(Standing::Arrived(at))
     }
 
-    // Lists the next arrival of the front, or tells why not.
+    // Lists the next arrival of the front, or drops what waits; tells how the search stands where the advance is to stop.
     fn turn<M: Map, K: Kind>(
         &mut self,
         map: &M,
         kind: &K,
         labels: &mut [Label<K::Load>],
         waiting: &mut [Candidate<K::Load>],
-    ) -> Turn
+    ) -> Option<Standing>
         requires { (length labels.old ≡ self.old.room) × (length waiting.old ≡ self.old.width) }
         ensures { Turned (M.Map.rows map.now) (K.Kind.meaning kind.now) (tables labels.old waiting.old labels.new waiting.new) (numbers self.old) (numbers self.new) result }
     {
@@ -181,11 +177,11 @@ impl Search {
         );
         let Some(candidate) = found else {
             self.waiting = 0;
-            return Turn::Ended;
+            return Some(Standing::Ended);
         };
         if self.listed == self.room {
             self.waiting = put_back(waiting, left, candidate);
-            return Turn::Full;
+            return Some(Standing::Full);
         }
         self.list(map, kind, labels, waiting, left, candidate.label)
     }
@@ -205,14 +201,8 @@ impl Search {
         self.check_advance(map.junctions(), labels.len(), waiting.len(), budget)?;
         let before = self.listed;
         for _ in 0..budget {
-            match self.turn(map, kind, labels, waiting) {
-                Turn::Listed => {}
-                Turn::Arrived => {
-                    let last = self.listed - 1;
-                    return Ok(self.progress(before, Standing::Arrived(last)));
-                }
-                Turn::Ended => return Ok(self.progress(before, Standing::Ended)),
-                Turn::Full => return Ok(self.progress(before, Standing::Full)),
+            if let Some(standing) = self.turn(map, kind, labels, waiting) {
+                return Ok(self.progress(before, standing));
             }
         }
         Ok(self.progress(before, Standing::Paused))

@@ -2,7 +2,7 @@ use Rattle.std.proofs.Common.{length, Ok, Err, sym, refl, ◌∙◌, arith, rule
 use Rattle.std.proofs.lemmas.Result.{err_from_is_err_and}
 use Rattle.promises.specs.Numbers.{tables}
 use Rattle.search.specs.SearchNumbers.{numbers}
-use Rattle.search.proofs.Turning.{no_turn_yet, lengths, one_turn_more, last_turn_arrived, last_turn_ended, last_turn_full, budget_used}
+use Rattle.search.proofs.Turning.{no_turn_yet, lengths, one_turn_more, last_turn, budget_used}
 use Rattle.search.proofs.Answering.{advance_keeps, advance_accepts, advance_refuses}
 use Rattle.search.proofs.search.Search.advance.Goals as goal
 
@@ -14,37 +14,19 @@ returns-in_err-check_advance g c =
     let p = err_from_is_err_and c.from_residual.result c.from_residual.ensures.1 in
     rw (p.1, p.2) (advance_keeps rows m c.args.budget t s s (Err f) (advance_refuses rows m c.junctions.result c.args.budget t s s f c.junctions.ensures c.in_err-check_advance.ensures (refl, refl, refl)))
 
-pub returns-in-Arrived : goal.returns-in-Arrived
-returns-in-Arrived g c =
+pub returns-in-Some : goal.returns-in-Some
+returns-in-Some g c =
     let rows = g.M.Map.rows c.args.map.now in let m = g.K.Kind.meaning c.args.kind.now in
     let s = numbers c.args.self.now in let s' = numbers c.turn.new.self in
     let t = tables c.args.labels.now c.args.waiting.now c.turn.new.labels c.turn.new.waiting in
     let lens = lengths s c.junctions.result (length c.args.labels.now) (length c.args.waiting.now) c.args.budget c.in_ok-check_advance.ensures in
     advance_keeps rows m c.args.budget t s s' (Ok c.progress.result) (advance_accepts rows m c.junctions.result c.args.budget t s s' c.progress.result c.junctions.ensures c.in_ok-check_advance.ensures
-    (last_turn_arrived rows m c.loop.counter s (numbers c.loop.self) s' c.args.labels.now c.loop.labels c.turn.new.labels c.args.waiting.now c.loop.waiting c.turn.new.waiting c.loop.invariant c.args.budget c.loop-test.true c.progress.result lens.0 (search rules) (search rules) c.in-Arrived.ensures c.progress.ensures))
-
-pub returns-in-Ended : goal.returns-in-Ended
-returns-in-Ended g c =
-    let rows = g.M.Map.rows c.args.map.now in let m = g.K.Kind.meaning c.args.kind.now in
-    let s = numbers c.args.self.now in let s' = numbers c.turn.new.self in
-    let t = tables c.args.labels.now c.args.waiting.now c.turn.new.labels c.turn.new.waiting in
-    let lens = lengths s c.junctions.result (length c.args.labels.now) (length c.args.waiting.now) c.args.budget c.in_ok-check_advance.ensures in
-    advance_keeps rows m c.args.budget t s s' (Ok c.progress-in-Ended.result) (advance_accepts rows m c.junctions.result c.args.budget t s s' c.progress-in-Ended.result c.junctions.ensures c.in_ok-check_advance.ensures
-    (last_turn_ended rows m c.loop.counter s (numbers c.loop.self) s' c.args.labels.now c.loop.labels c.turn.new.labels c.args.waiting.now c.loop.waiting c.turn.new.waiting c.loop.invariant c.args.budget c.loop-test.true c.progress-in-Ended.result lens.0 (search rules) (search rules) c.in-Ended.ensures c.progress-in-Ended.ensures))
-
-pub returns-in-Full : goal.returns-in-Full
-returns-in-Full g c =
-    let rows = g.M.Map.rows c.args.map.now in let m = g.K.Kind.meaning c.args.kind.now in
-    let s = numbers c.args.self.now in let s' = numbers c.turn.new.self in
-    let t = tables c.args.labels.now c.args.waiting.now c.turn.new.labels c.turn.new.waiting in
-    let lens = lengths s c.junctions.result (length c.args.labels.now) (length c.args.waiting.now) c.args.budget c.in_ok-check_advance.ensures in
-    advance_keeps rows m c.args.budget t s s' (Ok c.progress-in-Full.result) (advance_accepts rows m c.junctions.result c.args.budget t s s' c.progress-in-Full.result c.junctions.ensures c.in_ok-check_advance.ensures
-    (last_turn_full rows m c.loop.counter s (numbers c.loop.self) s' c.args.labels.now c.loop.labels c.turn.new.labels c.args.waiting.now c.loop.waiting c.turn.new.waiting c.loop.invariant c.args.budget c.loop-test.true c.progress-in-Full.result lens.0 (search rules) (search rules) c.in-Full.ensures c.progress-in-Full.ensures))
+    (last_turn rows m c.loop.counter s (numbers c.loop.self) s' c.args.labels.now c.loop.labels c.turn.new.labels c.args.waiting.now c.loop.waiting c.turn.new.waiting c.loop.invariant c.args.budget c.loop-test.true c.progress.result lens.0 (search rules) (search rules) c.in-Some.standing c.in-Some.ensures c.progress.ensures))
 
 pub loop-preserved : goal.loop-preserved
 loop-preserved g c =
     let rows = g.M.Map.rows c.args.map.now in let m = g.K.Kind.meaning c.args.kind.now in
-    one_turn_more rows m c.loop.counter (numbers c.args.self.now) (numbers c.loop.self) (numbers c.turn.new.self) c.args.labels.now c.loop.labels c.turn.new.labels c.args.waiting.now c.loop.waiting c.turn.new.waiting c.loop.invariant c.in-Listed.ensures
+    one_turn_more rows m c.loop.counter (numbers c.args.self.now) (numbers c.loop.self) (numbers c.turn.new.self) c.args.labels.now c.loop.labels c.turn.new.labels c.args.waiting.now c.loop.waiting c.turn.new.waiting c.loop.invariant c.in_default.ensures
 
 pub loop-init : goal.loop-init
 loop-init g c = no_turn_yet _ _ _ _ _
