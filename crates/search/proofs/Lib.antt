@@ -1,4 +1,3 @@
-mod Scanning
 mod Queueing
 mod OnTheFront
 mod Stepping

@@ -4,9 +4,10 @@ use lib.ListN.{length-map}
 use Rattle.std.specs.Option.{option_map}
 use Rattle.std.specs.List.{ContainsAt as Has}
 use Rattle.std.proofs.ByRecursion.{all-has}
-use Rattle.std.proofs.lemmas.List.{get_or-map, get_or_past}
+use Rattle.std.proofs.lemmas.List.{get_or-map, get_or_past, get_or_default}
+use Rattle.std.proofs.lemmas.List.Folds.{Any-from_list_any, list_any_at}
 use Rattle.std.proofs.lemmas.Bool.Decides.{nat_tests}
-use Rattle.std.proofs.lemmas.Bool.{leb-true, le-leb, eqb-true, eq-eqb, lt-ltb, le-ltb, and_parts, and_from, or_cases, cond-true, cond-false, cases_lt}
+use Rattle.std.proofs.lemmas.Bool.{leb-true, le-leb, eqb-true, eq-eqb, lt-ltb, le-ltb, and_parts, and_from, cond-true, cond-false, cases_lt}
 use Rattle.maps.specs.declared.road.Road.{Road}
 use Rattle.maps.specs.Rows.{Rows, at}
 use Rattle.loads.specs.Meaning.{Meaning}
@@ -22,9 +23,8 @@ use Rattle.front.proofs.OneRoad.{arrival_by_place_leads, leads_to_arrival_by_pla
 use Rattle.queue.specs.Heaps.{Least}
 use Rattle.promises.specs.declared.candidate.Candidate.{Candidate}
 use Rattle.promises.specs.Order.{leaves_before}
-use Rattle.search.specs.Steps.{any, label_serves, served_by, found, road_at, candidate, offer, GrownBy, Dropped}
+use Rattle.search.specs.Steps.{label_serves, served_by, found, road_at, candidate, offer, GrownBy, Dropped}
 use Rattle.promises.specs.StandsFor.{labels_of}
-use Rattle.search.proofs.Scanning.{any_at}
 use Rattle.search.proofs.Queueing.{has_here, has_there, has_cons, has_none}
 
 pub has_map : {X Y : Type 0} (f : X → Y) (xs : List X) (x : X) → Has xs x → Has (map f xs) (f x)
@@ -67,19 +67,11 @@ module _ {L : Type 0} (m : Meaning L) where
   serves_covers : (a : Arrival L) (x : Label L) → Serves m x.arrival a → label_serves m a x ≡ true
   serves_covers a x s = and_from _ _ (eq-eqb _ _ s.same_junction) (and_from _ _ (le-leb _ _ s.no_later) s.as_good)
 
-  any_true : {X : Type 0} (p : X → Bool) (xs : List X) → any p xs ≡ true → (x : X) × Has xs x × (p x ≡ true)
-  any_true p [] e = absurd (true≢false (sym e))
-  any_true {X} p (x ∷ xs) e = go (any_true p xs) (or_cases (p x) (any p xs) e)
-    where
-      go : (any p xs ≡ true → (z : X) × Has xs z × (p z ≡ true)) → (p x ≡ true) ⊎ (any p xs ≡ true) → (z : X) × Has (x ∷ xs) z × (p z ≡ true)
-      go rec (inl h) = (x, has_here x xs, h)
-      go rec (inr h) = let (z, hz, ez) = rec h in (z, has_there x z xs hz, ez)
-
   pub covered_served : (xs : List (Label L)) (a : Arrival L) → served_by m xs a ≡ true → Served m xs a
-  covered_served xs a e = let (x, h, p) = any_true (label_serves m a) xs e in (x, h, covers_serves a x p)
+  covered_served xs a e = let (k, x, h, i, p) = Any-from_list_any (label_serves m a) xs e in (x, (k, h, λ d. get_or_default xs k d x h ∙ i), covers_serves a x p)
 
   pub unserved : (xs : List (Label L)) (a : Arrival L) → served_by m xs a ≡ false → Served m xs a → ⊥
-  unserved xs a e (x, (k, h, p), s) = true≢false (sym (any_at (label_serves m a) xs k x h (ap (label_serves m a) (p x) ∙ serves_covers a x s)) ∙ e)
+  unserved xs a e (x, (k, h, p), s) = true≢false (sym (list_any_at (label_serves m a) xs k x h (ap (label_serves m a) (p x) ∙ serves_covers a x s)) ∙ e)
 
   pub dropped_thins : (q : Query L) → q.kind ≡ m → (listed : List (Label L)) (cs cs' : List (Candidate L)) → Dropped m listed cs cs' → Thins q listed (labels_of cs) (labels_of cs')
   dropped_thins q em listed cs cs' p = record { each_waited = only'; what_waited_is_served_or_waits = kept' }

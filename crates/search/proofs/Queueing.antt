@@ -61,14 +61,16 @@ grown_skip {X} off n cs cs₁ g o = record { each_waited_or_was_offered = λ d h
     came' k d h p (inr (inl q)) = g.what_was_offered_waits k d q p
     came' k d h p (inr (inr q)) = absurd (omega arith)
 
--- a push that has room is done
-pub cases_ok : {A E : Type 0} (r : Result A E) (P Q : Type 0) → MatchResult r (λ _. P) (λ _. Q) → (Q → ⊥) → P
-cases_ok (Ok a) P Q p no_room = p
-cases_ok (Err e) P Q p no_room = absurd (no_room p)
+-- what holds of a queue over a table holds of the first n records of the table
+module _ {X : Type 0} (h : Heap X) (ws : List X) (n : ℕ) (el : h.len ≡ n) (es : slots h ≡ ws) where
+  pub waits : (P : List X → Type 0) → P (waiting h) → P (take n ws)
+  waits P p = subst P (ap (λ k. take k (slots h)) el ∙ ap (take n) es) p
 
--- a fact of a queue, moved to what was lent
-pub moved : {X : Type 0} (P : ℕ → List X → ℕ → List X → Type 0) (u u' r r' : ℕ) (ws ws₁ vs vs₁ : List X) → u ≡ u' → ws ≡ ws₁ → r ≡ r' → vs ≡ vs₁ → P u ws r vs → P u' ws₁ r' vs₁
-moved {X} P u u' r r' ws ws₁ vs vs₁ eu ew er ev p = subst (λ (x : ℕ). P x ws₁ r' vs₁) eu (subst (λ (x : List X). P u x r' vs₁) ew (subst (λ (x : ℕ). P u ws x vs₁) er (subst (λ (x : List X). P u ws r x) ev p)))
+  pub heaped : (before : X → X → Bool) → InHeapOrder before h → Heaped before ws n
+  heaped before x = subst (λ v. Heaped before v n) es (subst (λ k. Heaped before (slots h) k) el x)
+
+  pub in_heap_order : (before : X → X → Bool) → Heaped before ws n → InHeapOrder before h
+  in_heap_order before x = subst (λ v. Heaped before v h.len) (sym es) (subst (λ k. Heaped before ws k) (sym el) x)
 
 pub heaped_zero : {X : Type 0} (b : X → X → Bool) (xs : List X) → Heaped b xs 0
 unfolding HeapedFrom
@@ -76,32 +78,33 @@ heaped_zero b xs parent child d lo h k lt = absurd (omega (arith, lt))
 
 module _ {L : Type 0} where
   -- a queue that has taken the first n offers
-  abbrev pub Filling : (ℕ → Option (Candidate L)) → ℕ → Heap (Candidate L) → Heap (Candidate L) → Type 0
-  Filling off n h₀ h = OverSameSlice h₀ h × (h.len ≤ h₀.len + n) × GrownBy off n (waiting h₀) (waiting h) × (InHeapOrder leaves_before h₀ → InHeapOrder leaves_before h)
+  pub record Filling (off : ℕ → Option (Candidate L)) (n : ℕ) (h₀ h : Heap (Candidate L)) : Type 0 where
+    pub over_the_same_slice : OverSameSlice h₀ h
+    pub few : h.len ≤ h₀.len + n
+    pub grown : GrownBy off n (waiting h₀) (waiting h)
+    pub keeps_heap_order : InHeapOrder leaves_before h₀ → InHeapOrder leaves_before h
 
   pub same_on : (h k l : Heap (Candidate L)) → OverSameSlice h k → OverSameSlice k l → OverSameSlice h l
   same_on h k l a b = record { same_lender = b.same_lender ∙ a.same_lender; same_length = b.same_length ∙ a.same_length }
 
   pub filling : (off : ℕ → Option (Candidate L)) (h : Heap (Candidate L)) → Filling off 0 h h
-  filling off h = (record { same_lender = refl; same_length = refl }, omega arith, grown_none off (waiting h), λ r. r)
+  filling off h = record { over_the_same_slice = record { same_lender = refl; same_length = refl }; few = omega arith; grown = grown_none off (waiting h); keeps_heap_order = λ r. r }
 
-  pub filling_some : {A E : Type 0} (off : ℕ → Option (Candidate L)) (n : ℕ) (h₀ h k : Heap (Candidate L)) (e : Candidate L) (r : Result A E) → h₀.len + 12 ≤ length (slots h₀) → n < 12 → Filling off n h₀ h → OverSameSlice h k
-      → MatchResult r (λ _. Pushed leaves_before h e k) (λ _. (h.len ≡ length (slots h)) × (k ≡ h)) → off n ≡ Some e → Filling off (n + 1) h₀ k
-  filling_some off n h₀ h k e r room lt (s, few, g, rd) t done o =
-      let p : Pushed leaves_before h e k = cases_ok r (Pushed leaves_before h e k) ((h.len ≡ length (slots h)) × (k ≡ h)) done (λ x. omega (arith, x.0, s.same_length, few, room, lt)) in
-      (same_on h₀ h k s t, omega (arith, p.counts_one_more, few), grown_some off n (waiting h₀) (waiting h) (waiting k) e g p.adds_exactly_the_entry o, λ x. p.keeps_heap_order (rd x))
+  -- a push that has room is done
+  pub pushed : {A E : Type 0} (h k : Heap (Candidate L)) (e : Candidate L) (r : Result A E) → h.len < length (slots h) → MatchResult r (λ _. Pushed leaves_before h e k) (λ _. (h.len ≡ length (slots h)) × (k ≡ h)) → Pushed leaves_before h e k
+  pushed h k e (Ok a) room p = p
+  pushed h k e (Err f) room p = absurd (omega (arith, p.0, room))
+
+  pub filling_some : (off : ℕ → Option (Candidate L)) (n : ℕ) (h₀ h k : Heap (Candidate L)) (e : Candidate L) → Filling off n h₀ h → OverSameSlice h k → Pushed leaves_before h e k → off n ≡ Some e → Filling off (n + 1) h₀ k
+  filling_some off n h₀ h k e f t p o = record {
+    over_the_same_slice = same_on h₀ h k f.over_the_same_slice t;
+    few = omega (arith, p.counts_one_more, f.few);
+    grown = grown_some off n (waiting h₀) (waiting h) (waiting k) e f.grown p.adds_exactly_the_entry o;
+    keeps_heap_order = λ x. p.keeps_heap_order (f.keeps_heap_order x);
+  }
 
   pub filling_skip : (off : ℕ → Option (Candidate L)) (n : ℕ) (h₀ h : Heap (Candidate L)) → Filling off n h₀ h → off n ≡ None → Filling off (n + 1) h₀ h
-  filling_skip off n h₀ h (s, few, g, rd) o = (s, omega (arith, few), grown_skip off n (waiting h₀) (waiting h) g o, rd)
-
-  -- what was lent is as the queue left it
-  pub filled : (off : ℕ → Option (Candidate L)) (n used r : ℕ) (ws ws' : List (Candidate L)) (h₀ h : Heap (Candidate L)) → Filling off n h₀ h → n ≡ 12 → h₀.len ≡ used → slots h₀ ≡ ws → r ≡ h.len → ws' ≡ slots h →
-      record { few : r ≤ used + 12; grown : GrownBy off 12 (take used ws) (take r ws'); heaped : Heaped leaves_before ws used → Heaped leaves_before ws' r }
-  filled off n used r ws ws' h₀ h (s, few, g, rd) en eu ew er e' = record {
-    few = omega (arith, few, en, eu, er);
-    grown = subst (λ (v : List (Candidate L)). GrownBy off 12 v (take r ws')) (ap (λ (k : ℕ). take k (slots h₀)) eu ∙ ap (take used) ew) (subst (λ (v : List (Candidate L)). GrownBy off 12 (waiting h₀) v) (ap (λ (k : ℕ). take k (slots h)) (sym er) ∙ ap (take r) (sym e')) (subst (λ (k : ℕ). GrownBy off k (waiting h₀) (waiting h)) en g));
-    heaped = λ x. subst (λ (v : List (Candidate L)). Heaped leaves_before v r) (sym e') (subst (λ (k : ℕ). Heaped leaves_before (slots h) k) (sym er) (rd (subst (λ (v : List (Candidate L)). Heaped leaves_before v h₀.len) (sym ew) (subst (λ (k : ℕ). Heaped leaves_before ws k) (sym eu) x))));
-  }
+  filling_skip off n h₀ h f o = record { over_the_same_slice = f.over_the_same_slice; few = omega (arith, f.few); grown = grown_skip off n (waiting h₀) (waiting h) f.grown o; keeps_heap_order = f.keeps_heap_order }
 
   module _ (m : Meaning L) (ls : List (Label L)) where
     pub dropped_none : (cs : List (Candidate L)) → Dropped m ls cs cs
@@ -117,37 +120,39 @@ module _ {L : Type 0} where
     dropped_all cs cs₁ p z d h = ⊎_elim (λ x. x) (λ (x : Has cs₁ d). absurd (omega (arith, z, x.1))) (p.what_waited_is_served_or_waits d h)
 
     -- a queue from which some served candidates were taken
-    abbrev pub Dropping : Heap (Candidate L) → Heap (Candidate L) → Type 0
-    Dropping h₀ h = OverSameSlice h₀ h × (h.len ≤ h₀.len) × Dropped m ls (waiting h₀) (waiting h) × (InHeapOrder leaves_before h₀ → InHeapOrder leaves_before h)
+    pub record Dropping (h₀ h : Heap (Candidate L)) : Type 0 where
+      pub over_the_same_slice : OverSameSlice h₀ h
+      pub few : h.len ≤ h₀.len
+      pub dropped : Dropped m ls (waiting h₀) (waiting h)
+      pub keeps_heap_order : InHeapOrder leaves_before h₀ → InHeapOrder leaves_before h
 
     pub dropping : (h : Heap (Candidate L)) → Dropping h h
-    dropping h = (record { same_lender = refl; same_length = refl }, omega arith, dropped_none (waiting h), λ r. r)
+    dropping h = record { over_the_same_slice = record { same_lender = refl; same_length = refl }; few = omega arith; dropped = dropped_none (waiting h); keeps_heap_order = λ r. r }
 
     pub dropping_one : (h₀ h k : Heap (Candidate L)) (c : Candidate L) → Dropping h₀ h → OverSameSlice h k → Popped leaves_before h c k → served_by m ls c.label.arrival ≡ true → Dropping h₀ k
-    dropping_one h₀ h k c (s, few, p, rd) t o e = (same_on h₀ h k s t, omega (arith, few, o.counts_one_fewer), dropped_one (waiting h₀) (waiting k) c (dropped_shuffled (waiting h₀) (waiting h) (c ∷ waiting k) p o.removes_exactly_the_answer) e, λ x. o.keeps_heap_order (rd x))
-
-    abbrev pub Took : Candidate L → ℕ → List (Candidate L) → ℕ → List (Candidate L) → Type 0
-    Took c used ws r vs = record { taken : (r < used) × Taken m ls (take used ws) c (take r vs); heaped : Heaped leaves_before ws used → Heaped leaves_before vs r; least : Heaped leaves_before ws used → Least leaves_before c (c ∷ take r vs) }
-
-    pub took : (used r : ℕ) (ws vs : List (Candidate L)) (h₀ h k : Heap (Candidate L)) (c : Candidate L) → Dropping h₀ h → Popped leaves_before h c k → served_by m ls c.label.arrival ≡ false → h₀.len ≡ used → slots h₀ ≡ ws → r ≡ k.len → vs ≡ slots k → Took c used ws r vs
-    took used r ws vs h₀ h k c (s, few, p, rd) o e eu ew er ev = moved (Took c) h₀.len used k.len r (slots h₀) ws (slots k) vs eu ew (sym er) (sym ev) (record {
-      taken = (omega (arith, few, o.counts_one_fewer), record { dropped_before_it = dropped_shuffled (waiting h₀) (waiting h) (c ∷ waiting k) p o.removes_exactly_the_answer; not_served = e });
-      heaped = λ x. o.keeps_heap_order (rd x);
-      least = λ x. all_shuffled (λ y. leaves_before y c ≡ false) (waiting h) (c ∷ waiting k) o.removes_exactly_the_answer (o.was_first.none_comes_before_it (rd x));
-    })
-
-    pub took_none : (used : ℕ) (ws vs : List (Candidate L)) (h₀ h : Heap (Candidate L)) → Dropping h₀ h → h.len ≡ 0 → h₀.len ≡ used → slots h₀ ≡ ws →
-        record { taken : (◌≡◌ {A = ℕ} 0 0) × EachServed m ls (take used ws); heaped : Heaped leaves_before ws used → Heaped leaves_before vs 0; least : Heaped leaves_before ws used → (◌≡◌ {A = ℕ} 0 0) }
-    took_none used ws vs h₀ h (s, few, p, rd) z eu ew = record {
-      taken = (refl, subst (λ (x : List (Candidate L)). EachServed m ls x) (ap (λ (n : ℕ). take n (slots h₀)) eu ∙ ap (take used) ew) (dropped_all (waiting h₀) (waiting h) p (ap (λ (n : ℕ). length (take n (slots h))) z)));
-      heaped = λ x. heaped_zero leaves_before vs;
-      least = λ x. refl;
+    dropping_one h₀ h k c d t o e = record {
+      over_the_same_slice = same_on h₀ h k d.over_the_same_slice t;
+      few = omega (arith, d.few, o.counts_one_fewer);
+      dropped = dropped_one (waiting h₀) (waiting k) c (dropped_shuffled (waiting h₀) (waiting h) (c ∷ waiting k) d.dropped o.removes_exactly_the_answer) e;
+      keeps_heap_order = λ x. o.keeps_heap_order (d.keeps_heap_order x);
     }
 
-  abbrev pub Put_back : Candidate L → ℕ → List (Candidate L) → ℕ → List (Candidate L) → Type 0
-  Put_back c used ws r vs = record { count : r ≡ used + 1; entries : ((d : Candidate L) → Has (c ∷ take used ws) d → Has (take r vs) d) × ((d : Candidate L) → Has (take r vs) d → Has (c ∷ take used ws) d); heaped : Heaped leaves_before ws used → Heaped leaves_before vs r }
+    pub took : (h₀ h k : Heap (Candidate L)) (c : Candidate L) → Dropping h₀ h → OverSameSlice h k → Popped leaves_before h c k → served_by m ls c.label.arrival ≡ false →
+        record { over_the_same_slice : OverSameSlice h₀ k; keeps_heap_order : InHeapOrder leaves_before h₀ → InHeapOrder leaves_before k; taken : (k.len < h₀.len) × Taken m ls (waiting h₀) c (waiting k); least : InHeapOrder leaves_before h₀ → Least leaves_before c (c ∷ waiting k) }
+    took h₀ h k c d t o e = record {
+      over_the_same_slice = same_on h₀ h k d.over_the_same_slice t;
+      keeps_heap_order = λ x. o.keeps_heap_order (d.keeps_heap_order x);
+      taken = (omega (arith, d.few, o.counts_one_fewer), record { dropped_before_it = dropped_shuffled (waiting h₀) (waiting h) (c ∷ waiting k) d.dropped o.removes_exactly_the_answer; not_served = e });
+      least = λ x. all_shuffled (λ y. leaves_before y c ≡ false) (waiting h) (c ∷ waiting k) o.removes_exactly_the_answer (o.was_first.none_comes_before_it (d.keeps_heap_order x));
+    }
 
-  pub put_back : {A E : Type 0} (used n : ℕ) (ws vs : List (Candidate L)) (h k : Heap (Candidate L)) (c : Candidate L) (r : Result A E) → h.len < length (slots h) → MatchResult r (λ _. Pushed leaves_before h c k) (λ _. (h.len ≡ length (slots h)) × (k ≡ h)) → h.len ≡ used → slots h ≡ ws → n ≡ k.len → vs ≡ slots k → Put_back c used ws n vs
-  put_back used n ws vs h k c r room done eu ew en ev =
-      let p : Pushed leaves_before h c k = cases_ok r (Pushed leaves_before h c k) ((h.len ≡ length (slots h)) × (k ≡ h)) done (λ x. omega (arith, x.0, room)) in
-      moved (Put_back c) h.len used k.len n (slots h) ws (slots k) vs eu ew (sym en) (sym ev) (record { count = p.counts_one_more; entries = (λ d x. has_shuffled (c ∷ waiting h) (waiting k) d p.adds_exactly_the_entry x, λ d x. has_shuffled (waiting k) (c ∷ waiting h) d (IsPermutation-sym (c ∷ waiting h) (waiting k) p.adds_exactly_the_entry) x); heaped = p.keeps_heap_order })
+    pub emptied : (h₀ h k : Heap (Candidate L)) → Dropping h₀ h → OverSameSlice h k → (h.len ≡ 0) × (k ≡ h) →
+        record { over_the_same_slice : OverSameSlice h₀ k; keeps_heap_order : InHeapOrder leaves_before h₀ → InHeapOrder leaves_before k; taken : (k.len ≡ 0) × EachServed m ls (waiting h₀); least : InHeapOrder leaves_before h₀ → k.len ≡ 0 }
+    emptied h₀ h k d t (z, e) =
+        let none : k.len ≡ 0 = ap (λ (x : Heap (Candidate L)). x.len) e ∙ z in
+        record {
+          over_the_same_slice = same_on h₀ h k d.over_the_same_slice t;
+          keeps_heap_order = λ x. subst (λ (y : Heap (Candidate L)). InHeapOrder leaves_before y) (sym e) (d.keeps_heap_order x);
+          taken = (none, dropped_all (waiting h₀) (waiting h) d.dropped (ap (λ (n : ℕ). length (take n (slots h))) z));
+          least = λ _. none;
+        }

@@ -1,7 +1,8 @@
 -- One turn of an advance: what it lists, drops or leaves keeps the search standing.
-use Rattle.std.proofs.Common.{◌≡◌, ℕ, ◌+◌, ◌<◌, ◌≤◌, Bool, true, false, eqb, ◌⊎◌, List, [], ◌∷◌, ◌++◌, length, get_or, take, drop, set, Some, None, Option, sym, refl, ap, ◌∙◌, subst, inl, inr, ⊎_elim, arith, length-set, MatchOption}
+use Rattle.std.proofs.Common.{◌≡◌, ℕ, ◌+◌, ◌<◌, ◌≤◌, Bool, true, false, eqb, ◌⊎◌, List, [], ◌∷◌, ◌++◌, length, get_or, take, drop, set, Some, Option, sym, refl, ap, ◌∙◌, subst, inl, inr, ⊎_elim, arith, length-set}
 use Rattle.std.specs.List.{ContainsAt as Has}
-use Rattle.std.proofs.ByRecursion.{has_push}
+use Rattle.std.proofs.ByRecursion.{has_push, has_shuffled}
+use Rattle.std.proofs.lemmas.List.Sorted.{IsPermutation-sym}
 use Rattle.std.proofs.lemmas.List.{length-take-le, take_more_set, take-set, drop-set-lt, get_or-set_same}
 use Rattle.std.proofs.lemmas.Bool.{eqb-true, eqb-false}
 use Rattle.std.specs.Bool.{then_some}
@@ -17,7 +18,9 @@ use Rattle.front.proofs.Walks.{reached_is_a_load}
 use Rattle.front.proofs.NextCandidate.{next_candidate_is_reached, next_candidate_is_unbeaten, next_candidate_is_unlisted}
 use Rattle.front.proofs.Steps.{listing_keeps_the_invariant, dropping_served_candidates_keeps_the_invariant}
 use Rattle.front.proofs.ListedLabels.{nothing_waits_so_the_front_is_listed}
+use Rattle.queue.specs.declared.heap.Heap.{Heap}
 use Rattle.queue.specs.Heaps.{Heaped, Least}
+use Rattle.queue.specs.Waiting.{slots, waiting, InHeapOrder, Pushed}
 use Rattle.promises.specs.declared.candidate.Candidate.{Candidate}
 use Rattle.promises.specs.declared.standing.Standing.{Standing}
 use Rattle.promises.specs.declared.standing.Standing.TheVariants.{Arrived, Ended, Full}
@@ -27,7 +30,7 @@ use Rattle.search.specs.Steps.{offer, GrownBy, Dropped, Taken, EachServed}
 use Rattle.promises.specs.StandsFor.{labels_of, StandsFor}
 use Rattle.search.specs.Turns.{Turned, listed_by, TurnedFor, TurnSays, Lists}
 use Rattle.promises.specs.Numbers.{KeepsItsQuery, tables}
-use Rattle.search.proofs.Queueing.{has_there, has_cons, has_none, heaped_zero}
+use Rattle.search.proofs.Queueing.{has_there, has_cons, has_none, heaped_zero, waits, heaped, in_heap_order}
 use Rattle.search.proofs.OnTheFront.{dropped_thins, next, spreads, offer_leads}
 
 pub stands_again : {L : Type 0} (q : Query L) (s s' : Numbers) (ls ls' : List (Label L)) (ws ws' : List (Candidate L)) → StandsFor q s ls ws → KeepsItsQuery s s' → length ls' ≡ length ls → length ws' ≡ length ws → s'.listed ≤ length ls'
@@ -91,9 +94,9 @@ module _ {L : Type 0} (q : Query L) (s : Numbers) (ls : List (Label L)) (ws : Li
         front' = subst (λ (k : ℕ). Invariant q (take k ls) (labels_of (take s'.waiting ws'))) (sym el) (dropping_served_candidates_keeps_the_invariant q (take s.listed ls) (labels_of (take s.waiting ws)) (labels_of (take s'.waiting ws')) st.invariant (dropped_thins q.kind q refl (take s.listed ls) (take s.waiting ws) (take s'.waiting ws') drop))
 
     -- the next arrival is listed
-    pub listed : (s' : Numbers) (ws₁ ws' : List (Candidate L)) (ls' : List (Label L)) (r : Option Standing) → KeepsItsQuery s s' → s'.listed ≡ s.listed + 1 → s.listed < s.room → ls' ≡ set ls s.listed c.label → length ws' ≡ length ws → Heaped leaves_before ws' s'.waiting
+    pub listed : (s' : Numbers) (ws' : List (Candidate L)) (ls' : List (Label L)) (r : Option Standing) → KeepsItsQuery s s' → s'.listed ≡ s.listed + 1 → s.listed < s.room → ls' ≡ set ls s.listed c.label → length ws' ≡ length ws → Heaped leaves_before ws' s'.waiting
         → GrownBy (offer q.rows q.kind q.deadline c.label.arrival s.listed) 12 cs (take s'.waiting ws') → r ≡ then_some (eqb c.label.arrival.junction s.goal) (Arrived s.listed) → TurnedFor q (tables ls ws ls' ws') s s' r
-    listed s' ws₁ ws' ls' r n el lt e ew hp g answer = record {
+    listed s' ws' ls' r n el lt e ew hp g answer = record {
       stands = stands_again q s s' ls ls' ws ws' st n (ap length e ∙ length-set ls s.listed c.label) ew (omega (arith, el, inside, ap length e ∙ length-set ls s.listed c.label)) hp ranked' front';
       says = subst (λ (x : Option Standing). TurnSays q s.listed s'.listed ls' x) (sym answer) (says' (eqb c.label.arrival.junction s.goal) refl);
     }
@@ -130,12 +133,6 @@ module _ {L : Type 0} (q : Query L) (s : Numbers) (ls : List (Label L)) (ws : Li
         says' true h = (refl, λ x p. ap (λ (y : Label L). y.arrival.junction) (sym (the_label x p)) ∙ (eqb-true _ _ h ∙ st.goal))
         says' false h = λ x p j. eqb-false _ _ h (ap (λ (y : Label L). y.arrival.junction) (the_label x p) ∙ (j ∙ sym st.goal))
 
-pub by_none : {X : Type 0} (o : Option X) (P : Type 0) (Q : X → Type 0) → o ≡ None → MatchOption o P Q → P
-by_none o P Q e p = subst (λ t. MatchOption t P Q) e p
-
-pub by_some : {X : Type 0} (o : Option X) (x : X) (P : Type 0) (Q : X → Type 0) → o ≡ Some x → MatchOption o P Q → Q x
-by_some o x P Q e p = subst (λ t. MatchOption t P Q) e p
-
 one_listed : (b : Bool) (n : ℕ) → listed_by (then_some b (Arrived n)) ≡ 1
 one_listed true n = refl
 one_listed false n = refl
@@ -148,17 +145,43 @@ module _ {L : Type 0} (rows : Rows) (m : Meaning L) (ls : List (Label L)) (ws : 
   pub turn_ended : (ws' : List (Candidate L)) → EachServed m (take s.listed ls) (take s.waiting ws) → KeepsItsQuery s s' → s'.listed ≡ s.listed → s'.waiting ≡ 0 → length ws' ≡ length ws → Turned rows m (tables ls ws ls ws') s s' (Some Ended)
   turn_ended ws' all n el ez ew = record { count = omega (arith, el); within = omega (arith, el, fits, n.room); keeps_its_query = n; earlier_untouched = refl; later_untouched = refl; still = λ _. ez; nothing_waits_once_ended = λ _. ez; for_its_query = λ q er ek st. ended q s ls ws st s' ws' n el ez ew (subst (λ (k : ℕ). Heaped leaves_before ws' k) (sym ez) (heaped_zero leaves_before ws')) (subst (λ (k : Meaning L). EachServed k (take s.listed ls) (take s.waiting ws)) (sym ek) all) }
 
-  module _ (left : ℕ) (ws₁ : List (Candidate L)) (c : Candidate L) (lt : left < s.waiting) (tk : Taken m (take s.listed ls) (take s.waiting ws) c (take left ws₁))
-      (hp : Heaped leaves_before ws s.waiting → Heaped leaves_before ws₁ left) (least : Heaped leaves_before ws s.waiting → Least leaves_before c (c ∷ take left ws₁)) where
-    taken : (q : Query L) → q.kind ≡ m → Taken q.kind (take s.listed ls) (take s.waiting ws) c (take left ws₁)
-    taken q ek = subst (λ (k : Meaning L). Taken k (take s.listed ls) (take s.waiting ws) c (take left ws₁)) (sym ek) tk
+  module _ (h₀ h : Heap (Candidate L)) (el : h₀.len ≡ s.waiting) (es : slots h₀ ≡ ws) (c : Candidate L) (lt : h.len < h₀.len) (tk : Taken m (take s.listed ls) (waiting h₀) c (waiting h))
+      (hp : InHeapOrder leaves_before h₀ → InHeapOrder leaves_before h) (first : InHeapOrder leaves_before h₀ → Least leaves_before c (c ∷ waiting h)) where
+    taken : (q : Query L) → q.kind ≡ m → Taken q.kind (take s.listed ls) (take s.waiting ws) c (waiting h)
+    taken q ek = subst (λ (k : Meaning L). Taken k (take s.listed ls) (take s.waiting ws) c (waiting h)) (sym ek) (waits h₀ ws s.waiting el es (λ v. Taken m (take s.listed ls) v c (waiting h)) tk)
 
-    pub turn_full : (ws' : List (Candidate L)) → KeepsItsQuery s s' → s'.listed ≡ s.listed → s.listed ≡ s.room → length ws' ≡ length ws → (Heaped leaves_before ws₁ left → Heaped leaves_before ws' s'.waiting)
-        → ((d : Candidate L) → Has (c ∷ take left ws₁) d → Has (take s'.waiting ws') d) → ((d : Candidate L) → Has (take s'.waiting ws') d → Has (c ∷ take left ws₁) d) → Turned rows m (tables ls ws ls ws') s s' (Some Full)
-    turn_full ws' n el er ew hp' to from = record { count = omega (arith, el); within = omega (arith, el, fits, n.room); keeps_its_query = n; earlier_untouched = refl; later_untouched = refl; still = λ z. absurd (omega (arith, z, lt)); nothing_waits_once_ended = λ e. cc; for_its_query = λ q eq ek st. full q s ls ws st c (take left ws₁) (taken q ek) (least st.waiting_in_heap_order) s' ws' n el er ew (hp' (hp st.waiting_in_heap_order)) to from }
+    least : Heaped leaves_before ws s.waiting → Least leaves_before c (c ∷ waiting h)
+    least x = first (in_heap_order h₀ ws s.waiting el es leaves_before x)
 
-    pub turn_listed : (ls' : List (Label L)) (ws' : List (Candidate L)) (r : Option Standing) → s.listed < s.room → Lists rows m (tables ls ws₁ ls' ws') s s' left c.label r → length ws' ≡ length ws → Turned rows m (tables ls ws ls' ws') s s' r
-    turn_listed ls' ws' r room l ew = record { count = l.count ∙ ap (λ (k : ℕ). s.listed + k) (sym (ap listed_by l.answer ∙ one_listed _ s.listed)); within = omega (arith, l.count, l.keeps_its_query.room, room); keeps_its_query = l.keeps_its_query; earlier_untouched = ap (take s.listed) l.labels ∙ take-set ls s.listed c.label; later_untouched = ap (drop s'.listed) l.labels ∙ drop-set-lt s'.listed ls s.listed c.label (omega (arith, l.count)); still = λ z. absurd (omega (arith, z, lt)); nothing_waits_once_ended = λ e. absurd (not_ended _ s.listed (sym l.answer ∙ e)); for_its_query = λ q er ek st. listed q s ls ws st c (take left ws₁) (taken q ek) (least st.waiting_in_heap_order) s' ws₁ ws' ls' r l.keeps_its_query l.count room l.labels ew (l.heaped (hp st.waiting_in_heap_order)) (grown q er ek st.deadline) l.answer }
-      where
-        grown : (q : Query L) → q.rows ≡ rows → q.kind ≡ m → s.deadline ≡ q.deadline → GrownBy (offer q.rows q.kind q.deadline c.label.arrival s.listed) 12 (take left ws₁) (take s'.waiting ws')
-        grown q er ek ed = subst (λ (x : Rows). GrownBy (offer x q.kind q.deadline c.label.arrival s.listed) 12 (take left ws₁) (take s'.waiting ws')) (sym er) (subst (λ (x : Meaning L). GrownBy (offer rows x q.deadline c.label.arrival s.listed) 12 (take left ws₁) (take s'.waiting ws')) (sym ek) (subst (λ (x : ℕ). GrownBy (offer rows m x c.label.arrival s.listed) 12 (take left ws₁) (take s'.waiting ws')) ed l.grown))
+    ordered : Heaped leaves_before ws s.waiting → InHeapOrder leaves_before h
+    ordered x = hp (in_heap_order h₀ ws s.waiting el es leaves_before x)
+
+    module _ (ws' : List (Candidate L)) (k : Heap (Candidate L)) (el' : k.len ≡ s'.waiting) (es' : slots k ≡ ws') (long : length ws' ≡ length ws) where
+      pub turn_full : KeepsItsQuery s s' → s'.listed ≡ s.listed → s.listed ≡ s.room → Pushed leaves_before h c k → Turned rows m (tables ls ws ls ws') s s' (Some Full)
+      turn_full n e er p = record {
+        count = omega (arith, e);
+        within = omega (arith, e, fits, n.room);
+        keeps_its_query = n;
+        earlier_untouched = refl;
+        later_untouched = refl;
+        still = λ z. absurd (omega (arith, z, lt, el));
+        nothing_waits_once_ended = λ a. cc;
+        for_its_query = λ q eq ek st. full q s ls ws st c (waiting h) (taken q ek) (least st.waiting_in_heap_order) s' ws' n e er long (heaped k ws' s'.waiting el' es' leaves_before (p.keeps_heap_order (ordered st.waiting_in_heap_order)))
+            (λ d x. waits k ws' s'.waiting el' es' (λ v. Has v d) (has_shuffled (c ∷ waiting h) (waiting k) d p.adds_exactly_the_entry x))
+            (λ d x. has_shuffled (waiting k) (c ∷ waiting h) d (IsPermutation-sym (c ∷ waiting h) (waiting k) p.adds_exactly_the_entry) (waits k ws' s'.waiting el' es' (λ v. Has v d → Has (waiting k) d) (λ y. y) x));
+      }
+
+      pub turn_listed : (ls' : List (Label L)) (r : Option Standing) → s.listed < s.room → Lists rows m ls ls' h k s s' c.label r → Turned rows m (tables ls ws ls' ws') s s' r
+      turn_listed ls' r room l = record {
+        count = l.count ∙ ap (λ (k : ℕ). s.listed + k) (sym (ap listed_by l.answer ∙ one_listed _ s.listed));
+        within = omega (arith, l.count, l.keeps_its_query.room, room);
+        keeps_its_query = l.keeps_its_query;
+        earlier_untouched = ap (take s.listed) l.labels ∙ take-set ls s.listed c.label;
+        later_untouched = ap (drop s'.listed) l.labels ∙ drop-set-lt s'.listed ls s.listed c.label (omega (arith, l.count));
+        still = λ z. absurd (omega (arith, z, lt, el));
+        nothing_waits_once_ended = λ e. absurd (not_ended _ s.listed (sym l.answer ∙ e));
+        for_its_query = λ q er ek st. listed q s ls ws st c (waiting h) (taken q ek) (least st.waiting_in_heap_order) s' ws' ls' r l.keeps_its_query l.count room l.labels long (heaped k ws' s'.waiting el' es' leaves_before (l.keeps_heap_order (ordered st.waiting_in_heap_order))) (grown q er ek st.deadline) l.answer;
+      }
+        where
+          grown : (q : Query L) → q.rows ≡ rows → q.kind ≡ m → s.deadline ≡ q.deadline → GrownBy (offer q.rows q.kind q.deadline c.label.arrival s.listed) 12 (waiting h) (take s'.waiting ws')
+          grown q er ek ed = subst (λ (x : Rows). GrownBy (offer x q.kind q.deadline c.label.arrival s.listed) 12 (waiting h) (take s'.waiting ws')) (sym er) (subst (λ (x : Meaning L). GrownBy (offer rows x q.deadline c.label.arrival s.listed) 12 (waiting h) (take s'.waiting ws')) (sym ek) (subst (λ (x : ℕ). GrownBy (offer rows m x c.label.arrival s.listed) 12 (waiting h) (take s'.waiting ws')) ed (waits k ws' s'.waiting el' es' (λ v. GrownBy (offer rows m s.deadline c.label.arrival s.listed) 12 (waiting h) v) l.grown)))

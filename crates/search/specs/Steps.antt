@@ -1,7 +1,7 @@
 -- What the small steps of a search do. Nothing on this page has to be believed: the promises do not speak of it.
-use Rattle.std.specs.Prelude.{◌≡◌, ℕ, ◌<◌, Bool, true, false, ◌&&◌, ◌||◌, ◌⊎◌, List, [], ◌∷◌, Some, None, Ok, Err, Option, Result, ◌==◌, nat_le}
+use Rattle.std.specs.Prelude.{◌≡◌, ℕ, ◌<◌, Bool, true, false, ◌&&◌, ◌⊎◌, List, ◌∷◌, Some, None, Ok, Err, Option, Result, ◌==◌, nat_le}
 use Rattle.std.specs.Option.{option_map}
-use Rattle.std.specs.List.{ContainsAt as Has}
+use Rattle.std.specs.List.{ContainsAt as Has, list_any}
 use Rattle.refusals.specs.declared.refusal.Refusal.{Refusal}
 use Rattle.maps.specs.declared.road.Road.{Road}
 use Rattle.maps.specs.Rows.{Rows, answered}
@@ -11,17 +11,13 @@ use Rattle.front.specs.declared.label.Label.{Label}
 use Rattle.front.specs.OneRoad.{arrival_over_road}
 use Rattle.promises.specs.declared.candidate.Candidate.{Candidate}
 
-abbrev pub any : {X : Type 0} → (X → Bool) → List X → Bool
-any p [] = false
-any p (x ∷ xs) = p x || any p xs
-
 -- whether label x serves a: it is at a's junction, no later, with a load as good
 abbrev pub label_serves : {L : Type 0} → Meaning L → Arrival L → Label L → Bool
 label_serves m a x = x.arrival.junction == a.junction && (nat_le x.arrival.time a.time && m.as_good x.arrival.load a.load)
 
 -- whether some label of xs serves a
 abbrev pub served_by : {L : Type 0} → Meaning L → List (Label L) → Arrival L → Bool
-served_by m xs a = any (label_serves m a) xs
+served_by m xs a = list_any (label_serves m a) xs
 
 -- what the place question found: none where it was refused
 abbrev pub found : Result (Option Road) Refusal → Option Road

@@ -6,7 +6,9 @@ use Rattle.loads.specs.Meaning.{Meaning}
 use Rattle.front.specs.declared.label.Label.{Label}
 use Rattle.front.specs.Walks.{Query}
 use Rattle.front.specs.Legs.{Stored}
-use Rattle.queue.specs.Heaps.{Heaped}
+use Rattle.queue.specs.declared.heap.Heap.{Heap}
+use Rattle.queue.specs.Waiting.{waiting, InHeapOrder}
+use Rattle.promises.specs.declared.candidate.Candidate.{Candidate}
 use Rattle.promises.specs.declared.standing.Standing.{Standing}
 use Rattle.promises.specs.declared.standing.Standing.TheVariants.{Paused, Arrived, Ended, Full}
 use Rattle.promises.specs.Numbers.{Numbers, KeepsItsQuery, Tables}
@@ -46,11 +48,12 @@ pub record Turned {L : Type 0} (rows : Rows) (m : Meaning L) (t : Tables L) (s s
   pub nothing_waits_once_ended : r ≡ Some Ended → s'.waiting ≡ 0
   pub for_its_query : (q : Query L) → q.rows ≡ rows → q.kind ≡ m → StandsFor q s t.labels t.waiting → TurnedFor q t s s' r
 
--- the label x is listed, and what its roads offer joins the first `left` that wait
-pub record Lists {L : Type 0} (rows : Rows) (m : Meaning L) (t : Tables L) (s s' : Numbers) (left : ℕ) (x : Label L) (r : Option Standing) : Type 0 where
+-- the label x is listed, and what its roads offer joins those that wait in h, which is k then
+pub record Lists {L : Type 0} (rows : Rows) (m : Meaning L) (ls ls' : List (Label L)) (h k : Heap (Candidate L)) (s s' : Numbers) (x : Label L) (r : Option Standing) : Type 0 where
   pub keeps_its_query : KeepsItsQuery s s'
   pub count : s'.listed ≡ s.listed + 1
-  pub labels : t.labels_after ≡ slice_set t.labels s.listed x
-  pub grown : GrownBy (offer rows m s.deadline x.arrival s.listed) 12 (take left t.waiting) (take s'.waiting t.waiting_after)
-  pub heaped : Heaped leaves_before t.waiting left → Heaped leaves_before t.waiting_after s'.waiting
+  pub counts_those_waiting : s'.waiting ≡ k.len
+  pub labels : ls' ≡ slice_set ls s.listed x
+  pub grown : GrownBy (offer rows m s.deadline x.arrival s.listed) 12 (waiting h) (waiting k)
+  pub keeps_heap_order : InHeapOrder leaves_before h → InHeapOrder leaves_before k
   pub answer : r ≡ then_some (x.arrival.junction == s.goal) (Arrived s.listed)

@@ -1,6 +1,6 @@
 //! Listing a label: what its roads offer comes to wait.
-ghost use Rattle.std.specs.Prelude.{◌≡◌, ◌+◌, ◌<◌, ◌≤◌, length, take, slice_set};
-ghost use Rattle.queue.specs.Heaps.{Heaped};
+ghost use Rattle.std.specs.Prelude.{◌≡◌, ◌+◌, ◌<◌, ◌≤◌, length, slice_set};
+ghost use Rattle.queue.specs.Waiting.{slots, waiting, OverSameSlice, InHeapOrder};
 ghost use Rattle.promises.specs.Order.{leaves_before};
 ghost use Rattle.search.specs.Steps.{offer, GrownBy};
 
@@ -49,28 +49,26 @@ fn follow<M: Map, K: Kind>(
     })
 }
 
-// Lets what the twelve places of a label offer wait, and answers how many wait then.
+// Lets what the twelve places of a label offer wait.
 fn push_roads<M: Map, K: Kind>(
     map: &M,
     kind: &K,
     from: Arrival<K::Load>,
     number: u32,
     deadline: u32,
-    waiting: &mut [Candidate<K::Load>],
-    used: usize,
-) -> usize
-    requires { used + 12 ≤ length waiting.old }
-    ensures few { result ≤ used + 12 }
-    ensures grown { GrownBy (offer (M.Map.rows map.now) (K.Kind.meaning kind.now) deadline from number) 12 (take used waiting.old) (take result waiting.new) }
-    ensures heaped { Heaped leaves_before waiting.old used → Heaped leaves_before waiting.new result }
+    heap: &mut Heap<'_, Candidate<K::Load>>,
+)
+    requires { heap.old.len + 12 ≤ length (slots heap.old) }
+    ensures over_the_same_slice { OverSameSlice heap.old heap.new }
+    ensures few { heap.new.len ≤ heap.old.len + 12 }
+    ensures grown { GrownBy (offer (M.Map.rows map.now) (K.Kind.meaning kind.now) deadline from number) 12 (waiting heap.old) (waiting heap.new) }
+    ensures keeps_heap_order { InHeapOrder leaves_before heap.old → InHeapOrder leaves_before heap.new }
 {
-    let mut heap = Heap::over(waiting, used);
-    for place in 0..12u32 {
+    for place in 0..12 {
         if let Some(candidate) = follow(map, kind, from, number, place, deadline) {
             let _ = heap.push(candidate);
         }
     }
-    heap.len()
 }
 
 // Writes a label.

@@ -8,10 +8,10 @@ ghost use Rattle.promises.specs.Runs.Call.{advance as advance_call};
 ghost use Rattle.promises.specs.Law.{Keeps, NothingToldOfCharts};
 ghost use Rattle.search.specs.SearchNumbers.{numbers};
 ghost use Rattle.search.specs.Turns.{Turned, Lists};
-ghost use Rattle.std.specs.List.{ContainsAt as Has};
-ghost use Rattle.queue.specs.Heaps.{Heaped, Least};
+ghost use Rattle.queue.specs.Heaps.{Least};
+ghost use Rattle.queue.specs.Waiting.{slots, waiting, OverSameSlice, InHeapOrder};
 ghost use Rattle.promises.specs.Order.{leaves_before};
-ghost use Rattle.search.specs.Steps.{label_serves, served_by, offer, Taken, EachServed};
+ghost use Rattle.search.specs.Steps.{label_serves, served_by, Taken, EachServed};
 
 use super::{push_roads, put};
 use crate::search::Search;
@@ -22,13 +22,6 @@ use promises::candidate::Candidate;
 use promises::standing::{Progress, Standing};
 use queue::Heap;
 use refusals::refusal::Refusal;
-
-// The next candidate to list, if there is one, and how many wait besides.
-#[derive(Clone, Copy)]
-struct Next<L> {
-    found: Option<Candidate<L>>,
-    left: usize,
-}
 
 // Whether a label is at a candidate's junction, no later, with a load as good.
 fn serves<K: Kind>(kind: &K, label: Label<K::Load>, candidate: Candidate<K::Load>) -> bool
@@ -43,62 +36,30 @@ fn serves<K: Kind>(kind: &K, label: Label<K::Load>, candidate: Candidate<K::Load
     kind.as_good(label.arrival.load, candidate.label.arrival.load)
 }
 
-// Whether one of the first `listed` labels serves a candidate.
-fn served<K: Kind>(
-    kind: &K,
-    labels: &[Label<K::Load>],
-    listed: usize,
-    candidate: Candidate<K::Load>,
-) -> bool
-    requires { listed ≤ length labels.now }
-    ensures { result ≡ served_by (K.Kind.meaning kind.now) (take listed labels.now) candidate.label.arrival }
+// Whether a listed label serves a candidate.
+fn served<K: Kind>(kind: &K, listed: &[Label<K::Load>], candidate: Candidate<K::Load>) -> bool
+    ensures { result ≡ served_by (K.Kind.meaning kind.now) listed.now candidate.label.arrival }
 {
-    for i in 0..listed {
-        if serves(kind, labels[i], candidate) {
-            return true;
-        }
-    }
-    false
+    listed.iter().any(|label| serves(kind, *label, candidate))
 }
 
 // Takes the least candidate that no listed label serves, and drops those before it.
 fn take_next<K: Kind>(
     kind: &K,
-    labels: &[Label<K::Load>],
-    listed: usize,
-    waiting: &mut [Candidate<K::Load>],
-    used: usize,
-) -> Next<K::Load>
-    requires { (listed ≤ length labels.now) × (used ≤ length waiting.old) }
-    ensures taken { MatchOption result.found ((result.left ≡ 0) × EachServed (K.Kind.meaning kind.now) (take listed labels.now) (take used waiting.old)) (λ c. (result.left < used) × Taken (K.Kind.meaning kind.now) (take listed labels.now) (take used waiting.old) c (take result.left waiting.new)) }
-    ensures heaped { Heaped leaves_before waiting.old used → Heaped leaves_before waiting.new result.left }
-    ensures least { Heaped leaves_before waiting.old used → MatchOption result.found (result.left ≡ 0) (λ c. Least leaves_before c (c ∷ take result.left waiting.new)) }
+    listed: &[Label<K::Load>],
+    heap: &mut Heap<'_, Candidate<K::Load>>,
+) -> Option<Candidate<K::Load>>
+    ensures over_the_same_slice { OverSameSlice heap.old heap.new }
+    ensures keeps_heap_order { InHeapOrder leaves_before heap.old → InHeapOrder leaves_before heap.new }
+    ensures taken { MatchOption result ((heap.new.len ≡ 0) × EachServed (K.Kind.meaning kind.now) listed.now (waiting heap.old)) (λ c. (heap.new.len < heap.old.len) × Taken (K.Kind.meaning kind.now) listed.now (waiting heap.old) c (waiting heap.new)) }
+    ensures least { InHeapOrder leaves_before heap.old → MatchOption result (heap.new.len ≡ 0) (λ c. Least leaves_before c (c ∷ waiting heap.new)) }
 {
-    let mut heap = Heap::over(waiting, used);
     while let Some(candidate) = heap.pop() {
-        if !served(kind, labels, listed, candidate) {
-            return Next {
-                found: Some(candidate),
-                left: heap.len(),
-            };
+        if !served(kind, listed, candidate) {
+            return Some(candidate);
         }
     }
-    Next {
-        found: None,
-        left: 0,
-    }
-}
-
-// Puts a candidate back, and answers how many wait then.
-fn put_back<L: Copy>(waiting: &mut [Candidate<L>], used: usize, candidate: Candidate<L>) -> usize
-    requires { used < length waiting.old }
-    ensures count { result ≡ used + 1 }
-    ensures entries { ((d : Candidate L) → Has (candidate ∷ take used waiting.old) d → Has (take result waiting.new) d) × ((d : Candidate L) → Has (take result waiting.new) d → Has (candidate ∷ take used waiting.old) d) }
-    ensures heaped { Heaped leaves_before waiting.old used → Heaped leaves_before waiting.new result }
-{
-    let mut heap = Heap::over(waiting, used);
-    let _ = heap.push(candidate);
-    heap.len()
+    None
 }
 
 impl Search {
@@ -142,18 +103,18 @@ impl Search {
         map: &M,
         kind: &K,
         labels: &mut [Label<K::Load>],
-        waiting: &mut [Candidate<K::Load>],
-        left: usize,
+        heap: &mut Heap<'_, Candidate<K::Load>>,
         label: Label<K::Load>,
     ) -> Option<Standing>
-        requires { (length labels.old ≡ self.old.room) × ((length waiting.old ≡ self.old.width) × ((self.old.listed < self.old.room) × (left ≤ self.old.waiting))) }
-        ensures { Lists (M.Map.rows map.now) (K.Kind.meaning kind.now) (tables labels.old waiting.old labels.new waiting.new) (numbers self.old) (numbers self.new) left label result }
+        requires { (length labels.old ≡ self.old.room) × (length (slots heap.old) ≡ self.old.width) × (self.old.listed < self.old.room) × (heap.old.len ≤ self.old.waiting) }
+        ensures over_the_same_slice { OverSameSlice heap.old heap.new }
+        ensures listed { Lists (M.Map.rows map.now) (K.Kind.meaning kind.now) labels.old labels.new heap.old heap.new (numbers self.old) (numbers self.new) label result }
     {
         let at = self.listed;
         put(labels, at as usize, label);
-        let used = push_roads(map, kind, label.arrival, at, self.deadline, waiting, left);
+        push_roads(map, kind, label.arrival, at, self.deadline, heap);
         self.listed = at + 1;
-        self.waiting = used;
+        self.waiting = heap.len();
         (label.arrival.junction == self.goal).then_some(Standing::Arrived(at))
     }
 
@@ -168,22 +129,18 @@ impl Search {
         requires { (length labels.old ≡ self.old.room) × (length waiting.old ≡ self.old.width) }
         ensures { Turned (M.Map.rows map.now) (K.Kind.meaning kind.now) (tables labels.old waiting.old labels.new waiting.new) (numbers self.old) (numbers self.new) result }
     {
-        let Next { found, left } = take_next(
-            kind,
-            labels,
-            self.listed as usize,
-            waiting,
-            self.waiting,
-        );
-        let Some(candidate) = found else {
+        let mut heap = Heap::over(waiting, self.waiting);
+        let listed = self.listed as usize;
+        let Some(candidate) = take_next(kind, &labels[..listed], &mut heap) else {
             self.waiting = 0;
             return Some(Standing::Ended);
         };
         if self.listed == self.room {
-            self.waiting = put_back(waiting, left, candidate);
+            let _ = heap.push(candidate);
+            self.waiting = heap.len();
             return Some(Standing::Full);
         }
-        self.list(map, kind, labels, waiting, left, candidate.label)
+        self.list(map, kind, labels, &mut heap, candidate.label)
     }
 
     /// Lists the next arrivals of the front, as many as the budget says, up to the first at the goal.

@@ -16,6 +16,7 @@ use loads::Kind;
 use maps::Map;
 use promises::candidate::Candidate;
 use promises::standing::Standing;
+use queue::Heap;
 use refusals::refusal::Refusal;
 
 // The first check that a beginning fails.
@@ -103,7 +104,8 @@ impl Search {
                 place: 0,
             },
         );
-        let used = push_roads(map, kind, arrival, 0, deadline, waiting, 0);
+        let mut heap = Heap::over(waiting, 0);
+        push_roads(map, kind, arrival, 0, deadline, &mut heap);
         *self = Search {
             begun: true,
             junctions: map.junctions(),
@@ -112,7 +114,7 @@ impl Search {
             room: room as u32,
             width,
             listed: 1,
-            waiting: used,
+            waiting: heap.len(),
         };
         if start == goal {
             return Ok(Standing::Arrived(0));

@@ -1,24 +1,34 @@
-use Rattle.std.proofs.Common.{◌<◌, refl, arith, rules}
+use Rattle.std.proofs.Common.{◌≡◌, ◌<◌, length, take, sym, refl, ap, arith, rules}
+use Rattle.queue.specs.Waiting.{slots}
 use Rattle.search.specs.SearchNumbers.{numbers}
-use Rattle.search.proofs.Stepping.{by_none, by_some, turn_ended, turn_full, turn_listed}
+use Rattle.search.specs.Steps.{EachServed}
+use Rattle.search.proofs.Queueing.{pushed, waits}
+use Rattle.search.proofs.Stepping.{turn_ended, turn_full, turn_listed}
 use Rattle.search.proofs.search.Search.turn.Goals as goal
 
 pub returns-in_default : goal.returns-in_default
 returns-in_default g c =
     let rows = g.M.Map.rows c.args.map.now in let m = g.K.Kind.meaning c.args.kind.now in
-    turn_ended rows m c.args.labels.now c.args.waiting.now (numbers c.args.self.now) _ c.args.self.now.sized.0 c.take_next-found.new.waiting (by_none c.take_next-found.result.found _ _ c.in_default.is c.take_next-found.ensures.taken).1 (record { begun = refl; junctions = refl; goal = refl; deadline = refl; room = refl; width = refl }) refl refl (search rules)
+    let s = c.args.self.now in let h₀ = c.over-heap.result in let ls = c.args.labels.now in
+    let el : h₀.len ≡ s.waiting = omega (arith, c.over-heap.ensures.count_clamped_to_the_slice, s.sized, c.requires) in
+    turn_ended rows m ls c.args.waiting.now (numbers s) _ s.sized.0 _ (waits h₀ c.args.waiting.now s.waiting el c.over-heap.ensures.holds_what_the_slice_held (λ v. EachServed m (take s.listed ls) v) c.in_default.ensures.taken.1)
+    (record { begun = refl; junctions = refl; goal = refl; deadline = refl; room = refl; width = refl }) refl refl (search rules)
 
 pub returns-then-self : goal.returns-then-self
 returns-then-self g c =
     let rows = g.M.Map.rows c.args.map.now in let m = g.K.Kind.meaning c.args.kind.now in
-    let n = c.take_next-found in
-    let tk = by_some n.result.found c.in-Some.candidate _ _ c.in-Some.is n.ensures.taken in
-    turn_full rows m c.args.labels.now c.args.waiting.now (numbers c.args.self.now) _ c.args.self.now.sized.0 n.result.left n.new.waiting c.in-Some.candidate tk.0 tk.1 n.ensures.heaped (λ x. by_some n.result.found c.in-Some.candidate _ _ c.in-Some.is (n.ensures.least x)) c.put_back-self.new.waiting (record { begun = refl; junctions = refl; goal = refl; deadline = refl; room = refl; width = refl }) refl c.if-self.true (search rules) c.put_back-self.ensures.heaped c.put_back-self.ensures.entries.0 c.put_back-self.ensures.entries.1
+    let s = c.args.self.now in let h₀ = c.over-heap.result in let h = c.take_next.new.heap in
+    let t = c.in-Some.ensures in
+    let el : h₀.len ≡ s.waiting = omega (arith, c.over-heap.ensures.count_clamped_to_the_slice, s.sized, c.requires) in
+    let room : h.len < length (slots h) = omega (arith, t.taken.0, el, t.over_the_same_slice.same_length, ap length c.over-heap.ensures.holds_what_the_slice_held, s.sized, c.requires) in
+    turn_full rows m c.args.labels.now c.args.waiting.now (numbers s) _ s.sized.0 h₀ h el c.over-heap.ensures.holds_what_the_slice_held c.in-Some.candidate t.taken.0 t.taken.1 t.keeps_heap_order t.least _ c.push.new.self (sym c.len-self.ensures) (search rules) (search rules)
+    (record { begun = refl; junctions = refl; goal = refl; deadline = refl; room = refl; width = refl }) refl c.if-self.true (pushed h c.push.new.self c.in-Some.candidate c.push.result room c.push.ensures.adds_the_entry_unless_full)
 
 pub returns : goal.returns
 returns g c =
     let rows = g.M.Map.rows c.args.map.now in let m = g.K.Kind.meaning c.args.kind.now in
-    let n = c.take_next-found in
-    let tk = by_some n.result.found c.in-Some.candidate _ _ c.in-Some.is n.ensures.taken in
-    let room : c.args.self.now.listed < c.args.self.now.room = omega (arith, c.if-self.false, c.args.self.now.sized.0) in
-    turn_listed rows m c.args.labels.now c.args.waiting.now (numbers c.args.self.now) (numbers c.list.new.self) c.args.self.now.sized.0 n.result.left n.new.waiting c.in-Some.candidate tk.0 tk.1 n.ensures.heaped (λ x. by_some n.result.found c.in-Some.candidate _ _ c.in-Some.is (n.ensures.least x)) c.list.new.labels c.list.new.waiting c.list.result room c.list.ensures (search rules)
+    let s = c.args.self.now in let h₀ = c.over-heap.result in
+    let t = c.in-Some.ensures in
+    let el : h₀.len ≡ s.waiting = omega (arith, c.over-heap.ensures.count_clamped_to_the_slice, s.sized, c.requires) in
+    let room : s.listed < s.room = omega (arith, c.if-self.false, s.sized.0) in
+    turn_listed rows m c.args.labels.now c.args.waiting.now (numbers s) (numbers c.list.new.self) s.sized.0 h₀ c.take_next.new.heap el c.over-heap.ensures.holds_what_the_slice_held c.in-Some.candidate t.taken.0 t.taken.1 t.keeps_heap_order t.least _ c.list.new.heap (sym c.list.ensures.listed.counts_those_waiting) (search rules) (search rules) c.list.new.labels c.list.result room c.list.ensures.listed
