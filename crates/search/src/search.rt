@@ -8,7 +8,13 @@ mod trace;
 /// A search. Its label table and its waiting table are lent to each call that needs them.
 #[derive(Drop)]
 pub struct Search {
-    begun: bool,
+    // what it keeps since the last begin that was accepted
+    run: Option<Underway>,
+}
+
+// What a search keeps of its own that has begun.
+#[derive(Clone, Copy)]
+struct Underway {
     junctions: u32,
     goal: u32,
     deadline: u32,

@@ -90,20 +90,20 @@ impl Search {
         ensures promised { ChartPromise (charting kind.now.capacity labels.now rows.old rows.new result) (numbers self.now) }
         ensures every_run_with_this_call_keeps_the_law { (h : History Load) → Run h (numbers self.now) → Keeps ToldByCharts (chart_call (charting kind.now.capacity labels.now rows.old rows.new result) ∷ h) }
     {
-        if !self.begun {
+        let Some(run) = self.run else {
             return Err(Refusal::NotBegun);
-        }
-        if labels.len() != self.room as usize {
+        };
+        if labels.len() != run.room as usize {
             return Err(Refusal::NotAsBegun);
         }
         if !starts_plain(kind, labels) {
             return Err(Refusal::NotPlainProfile);
         }
-        let count = count_rows(labels, self.listed, self.goal);
+        let count = count_rows(labels, run.listed, run.goal);
         if rows.len() < count as usize {
             return Err(Refusal::BufferTooShort(count));
         }
-        write_rows(labels, self.listed, self.goal, rows);
+        write_rows(labels, run.listed, run.goal, rows);
         Ok(count)
     }
 }

@@ -67,13 +67,13 @@ impl Search {
         ensures promised { TracePromise label labels.now walk.old walk.new (numbers self.now) result }
         ensures every_run_with_this_call_keeps_the_law { (h : History L) → Run h (numbers self.now) → Keeps NothingToldOfCharts (trace_call label labels.now walk.old walk.new result ∷ h) }
     {
-        if !self.begun {
+        let Some(run) = self.run else {
             return Err(Refusal::NotBegun);
-        }
-        if labels.len() != self.room as usize {
+        };
+        if labels.len() != run.room as usize {
             return Err(Refusal::NotAsBegun);
         }
-        if label >= self.listed {
+        if label >= run.listed {
             return Err(Refusal::LabelNotListed);
         }
         let count = count_roads(labels, label);

@@ -6,7 +6,7 @@ ghost use Rattle.promises.specs.Advance.{AdvancePromise, advance_check};
 ghost use Rattle.promises.specs.Runs.{History, Run};
 ghost use Rattle.promises.specs.Runs.Call.{advance as advance_call};
 ghost use Rattle.promises.specs.Law.{Keeps, NothingToldOfCharts};
-ghost use Rattle.search.specs.SearchNumbers.{numbers};
+ghost use Rattle.search.specs.SearchNumbers.{numbers, underway_numbers};
 ghost use Rattle.search.specs.Turns.{Turned, Lists};
 ghost use Rattle.queue.specs.Heaps.{Least};
 ghost use Rattle.queue.specs.Waiting.{slots, waiting, OverSameSlice, InHeapOrder};
@@ -14,7 +14,7 @@ ghost use Rattle.promises.specs.Order.{leaves_before};
 ghost use Rattle.search.specs.Steps.{label_serves, served_by, Taken, EachServed};
 
 use super::{push_roads, put};
-use crate::search::Search;
+use crate::search::{Search, Underway};
 use front::label::Label;
 use loads::Kind;
 use maps::Map;
@@ -62,8 +62,8 @@ fn take_next<K: Kind>(
     None
 }
 
-impl Search {
-    // The first check that an advance fails.
+impl Underway {
+    // The first check that an advance fails of a search that has begun.
     fn check_advance(
         &self,
         junctions: u32,
@@ -71,11 +71,8 @@ impl Search {
         waiting: usize,
         budget: u32,
     ) -> Result<(), Refusal>
-        ensures { result_err result ≡ advance_check (numbers self.now) junctions labels waiting budget }
+        ensures { result_err result ≡ advance_check (underway_numbers self.now) junctions labels waiting budget }
     {
-        if !self.begun {
-            return Err(Refusal::NotBegun);
-        }
         if junctions != self.junctions || labels != self.room as usize || waiting != self.width {
             return Err(Refusal::NotAsBegun);
         }
@@ -108,7 +105,7 @@ impl Search {
     ) -> Option<Standing>
         requires { (length labels.old ≡ self.old.room) × (length (slots heap.old) ≡ self.old.width) × (self.old.listed < self.old.room) × (heap.old.len ≤ self.old.waiting) }
         ensures over_the_same_slice { OverSameSlice heap.old heap.new }
-        ensures listed { Lists (M.Map.rows map.now) (K.Kind.meaning kind.now) labels.old labels.new heap.old heap.new (numbers self.old) (numbers self.new) label result }
+        ensures listed { Lists (M.Map.rows map.now) (K.Kind.meaning kind.now) labels.old labels.new heap.old heap.new (underway_numbers self.old) (underway_numbers self.new) label result }
     {
         let at = self.listed;
         put(labels, at as usize, label);
@@ -127,7 +124,7 @@ impl Search {
         waiting: &mut [Candidate<K::Load>],
     ) -> Option<Standing>
         requires { (length labels.old ≡ self.old.room) × (length waiting.old ≡ self.old.width) }
-        ensures { Turned (M.Map.rows map.now) (K.Kind.meaning kind.now) (tables labels.old waiting.old labels.new waiting.new) (numbers self.old) (numbers self.new) result }
+        ensures { Turned (M.Map.rows map.now) (K.Kind.meaning kind.now) (tables labels.old waiting.old labels.new waiting.new) (underway_numbers self.old) (underway_numbers self.new) result }
     {
         let mut heap = Heap::over(waiting, self.waiting);
         let listed = self.listed as usize;
@@ -142,7 +139,9 @@ impl Search {
         }
         self.list(map, kind, labels, &mut heap, candidate.label)
     }
+}
 
+impl Search {
     /// Lists the next arrivals of the front, as many as the budget says, up to the first at the goal.
     pub fn advance<M: Map, K: Kind>(
         &mut self,
@@ -155,13 +154,16 @@ impl Search {
         ensures promised { AdvancePromise (M.Map.rows map.now) (K.Kind.meaning kind.now) budget (tables labels.old waiting.old labels.new waiting.new) (numbers self.old) (numbers self.new) result }
         ensures every_run_with_this_call_keeps_the_law { (h : History (K.Load)) → Run h (numbers self.old) → Keeps NothingToldOfCharts (advance_call (M.Map.rows map.now) (K.Kind.meaning kind.now) budget (tables labels.old waiting.old labels.new waiting.new) result ∷ h) }
     {
-        self.check_advance(map.junctions(), labels.len(), waiting.len(), budget)?;
-        let before = self.listed;
+        let Some(run) = &mut self.run else {
+            return Err(Refusal::NotBegun);
+        };
+        run.check_advance(map.junctions(), labels.len(), waiting.len(), budget)?;
+        let before = run.listed;
         for _ in 0..budget {
-            if let Some(standing) = self.turn(map, kind, labels, waiting) {
-                return Ok(self.progress(before, standing));
+            if let Some(standing) = run.turn(map, kind, labels, waiting) {
+                return Ok(run.progress(before, standing));
             }
         }
-        Ok(self.progress(before, Standing::Paused))
+        Ok(run.progress(before, Standing::Paused))
     }
 }

@@ -9,7 +9,7 @@ ghost use Rattle.promises.specs.Law.{Keeps, NothingToldOfCharts};
 ghost use Rattle.search.specs.SearchNumbers.{numbers};
 
 use super::{push_roads, put};
-use crate::search::Search;
+use crate::search::{Search, Underway};
 use front::arrival::Arrival;
 use front::label::Label;
 use loads::Kind;
@@ -59,16 +59,7 @@ impl Search {
     pub fn new() -> Search
         ensures not_begun { numbers result ≡ new_numbers }
     {
-        Search {
-            begun: false,
-            junctions: 0,
-            goal: 0,
-            deadline: 0,
-            room: 0,
-            width: 0,
-            listed: 0,
-            waiting: 0,
-        }
+        Search { run: None }
     }
 
     /// Begins, or begins afresh: lists label 0, the empty walk. Answers arrived where the start is the
@@ -106,8 +97,7 @@ impl Search {
         );
         let mut heap = Heap::over(waiting, 0);
         push_roads(map, kind, arrival, 0, deadline, &mut heap);
-        *self = Search {
-            begun: true,
+        self.run = Some(Underway {
             junctions: map.junctions(),
             goal,
             deadline,
@@ -115,7 +105,7 @@ impl Search {
             width,
             listed: 1,
             waiting: heap.len(),
-        };
+        });
         if start == goal {
             return Ok(Standing::Arrived(0));
         }

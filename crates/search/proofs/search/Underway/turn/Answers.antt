@@ -1,17 +1,17 @@
 use Rattle.std.proofs.Common.{◌≡◌, ◌<◌, length, take, sym, refl, ap, arith, rules}
 use Rattle.queue.specs.Waiting.{slots}
-use Rattle.search.specs.SearchNumbers.{numbers}
+use Rattle.search.specs.SearchNumbers.{underway_numbers}
 use Rattle.search.specs.Steps.{EachServed}
 use Rattle.search.proofs.Queueing.{pushed, waits}
 use Rattle.search.proofs.Stepping.{turn_ended, turn_full, turn_listed}
-use Rattle.search.proofs.search.Search.turn.Goals as goal
+use Rattle.search.proofs.search.Underway.turn.Goals as goal
 
 pub returns-in_default : goal.returns-in_default
 returns-in_default g c =
     let rows = g.M.Map.rows c.args.map.now in let m = g.K.Kind.meaning c.args.kind.now in
     let s = c.args.self.now in let h₀ = c.over-heap.result in let ls = c.args.labels.now in
     let el : h₀.len ≡ s.waiting = omega (arith, c.over-heap.ensures.count_clamped_to_the_slice, s.sized, c.requires) in
-    turn_ended rows m ls c.args.waiting.now (numbers s) _ s.sized.0 _ (waits h₀ c.args.waiting.now s.waiting el c.over-heap.ensures.holds_what_the_slice_held (λ v. EachServed m (take s.listed ls) v) c.in_default.ensures.taken.1)
+    turn_ended rows m ls c.args.waiting.now (underway_numbers s) _ s.sized.0 _ (waits h₀ c.args.waiting.now s.waiting el c.over-heap.ensures.holds_what_the_slice_held (λ v. EachServed m (take s.listed ls) v) c.in_default.ensures.taken.1)
     (record { begun = refl; junctions = refl; goal = refl; deadline = refl; room = refl; width = refl }) refl refl (search rules)
 
 pub returns-then-self : goal.returns-then-self
@@ -21,7 +21,7 @@ returns-then-self g c =
     let t = c.in-Some.ensures in
     let el : h₀.len ≡ s.waiting = omega (arith, c.over-heap.ensures.count_clamped_to_the_slice, s.sized, c.requires) in
     let room : h.len < length (slots h) = omega (arith, t.taken.0, el, t.over_the_same_slice.same_length, ap length c.over-heap.ensures.holds_what_the_slice_held, s.sized, c.requires) in
-    turn_full rows m c.args.labels.now c.args.waiting.now (numbers s) _ s.sized.0 h₀ h el c.over-heap.ensures.holds_what_the_slice_held c.in-Some.candidate t.taken.0 t.taken.1 t.keeps_heap_order t.least _ c.push.new.self (sym c.len-self.ensures) (search rules) (search rules)
+    turn_full rows m c.args.labels.now c.args.waiting.now (underway_numbers s) _ s.sized.0 h₀ h el c.over-heap.ensures.holds_what_the_slice_held c.in-Some.candidate t.taken.0 t.taken.1 t.keeps_heap_order t.least _ c.push.new.self (sym c.len-self.ensures) (search rules) (search rules)
     (record { begun = refl; junctions = refl; goal = refl; deadline = refl; room = refl; width = refl }) refl c.if-self.true (pushed h c.push.new.self c.in-Some.candidate c.push.result room c.push.ensures.adds_the_entry_unless_full)
 
 pub returns : goal.returns
@@ -31,4 +31,4 @@ returns g c =
     let t = c.in-Some.ensures in
     let el : h₀.len ≡ s.waiting = omega (arith, c.over-heap.ensures.count_clamped_to_the_slice, s.sized, c.requires) in
     let room : s.listed < s.room = omega (arith, c.if-self.false, s.sized.0) in
-    turn_listed rows m c.args.labels.now c.args.waiting.now (numbers s) (numbers c.list.new.self) s.sized.0 h₀ c.take_next.new.heap el c.over-heap.ensures.holds_what_the_slice_held c.in-Some.candidate t.taken.0 t.taken.1 t.keeps_heap_order t.least _ c.list.new.heap (sym c.list.ensures.listed.counts_those_waiting) (search rules) (search rules) c.list.new.labels c.list.result room c.list.ensures.listed
+    turn_listed rows m c.args.labels.now c.args.waiting.now (underway_numbers s) (underway_numbers c.list.new.self) s.sized.0 h₀ c.take_next.new.heap el c.over-heap.ensures.holds_what_the_slice_held c.in-Some.candidate t.taken.0 t.taken.1 t.keeps_heap_order t.least _ c.list.new.heap (sym c.list.ensures.listed.counts_those_waiting) (search rules) (search rules) c.list.new.labels c.list.result room c.list.ensures.listed
