@@ -16,6 +16,7 @@ use loads::Kind;
 use maps::Map;
 use promises::candidate::Candidate;
 use promises::standing::Standing;
+use promises::trip::Trip;
 use queue::Heap;
 use refusals::refusal::Refusal;
 
@@ -23,26 +24,23 @@ use refusals::refusal::Refusal;
 fn check_begin<M: Map, K: Kind>(
     map: &M,
     kind: &K,
-    start: u32,
-    load: K::Load,
-    goal: u32,
-    deadline: u32,
+    trip: Trip<K::Load>,
     labels: usize,
     waiting: usize,
 ) -> Result<(), Refusal>
-    ensures { result_err result ≡ begin_check (length (M.Map.rows map.now)) ((K.Kind.meaning kind.now).admits load) start goal deadline labels waiting }
+    ensures { result_err result ≡ begin_check (length (M.Map.rows map.now)) ((K.Kind.meaning kind.now).admits trip.load) trip.start trip.goal trip.deadline labels waiting }
 {
     let junctions = map.junctions();
-    if start >= junctions {
+    if trip.start >= junctions {
         return Err(Refusal::StartOffMap);
     }
-    if goal >= junctions {
+    if trip.goal >= junctions {
         return Err(Refusal::GoalOffMap);
     }
-    if !kind.admits(load) {
+    if !kind.admits(trip.load) {
         return Err(Refusal::StartLoadNotAdmitted);
     }
-    if deadline > 999_999 {
+    if trip.deadline > 999_999 {
         return Err(Refusal::DeadlineTooLate);
     }
     if labels == 0 || labels > 65_535 {
@@ -68,23 +66,20 @@ impl Search {
         &mut self,
         map: &M,
         kind: &K,
+        trip: Trip<K::Load>,
         labels: &mut [Label<K::Load>],
         waiting: &mut [Candidate<K::Load>],
-        start: u32,
-        load: K::Load,
-        goal: u32,
-        deadline: u32,
     ) -> Result<Standing, Refusal>
-        ensures promised { BeginPromise (query (M.Map.rows map.now) (K.Kind.meaning kind.now) start load goal deadline) (tables labels.old waiting.old labels.new waiting.new) (numbers self.old) (numbers self.new) result }
-        ensures every_run_with_this_call_keeps_the_law { (h : History (K.Load)) → Run h (numbers self.old) → Keeps NothingToldOfCharts (begin_call (query (M.Map.rows map.now) (K.Kind.meaning kind.now) start load goal deadline) (tables labels.old waiting.old labels.new waiting.new) result ∷ h) }
+        ensures promised { BeginPromise (query (M.Map.rows map.now) (K.Kind.meaning kind.now) trip.start trip.load trip.goal trip.deadline) (tables labels.old waiting.old labels.new waiting.new) (numbers self.old) (numbers self.new) result }
+        ensures every_run_with_this_call_keeps_the_law { (h : History (K.Load)) → Run h (numbers self.old) → Keeps NothingToldOfCharts (begin_call (query (M.Map.rows map.now) (K.Kind.meaning kind.now) trip.start trip.load trip.goal trip.deadline) (tables labels.old waiting.old labels.new waiting.new) result ∷ h) }
     {
         let room = labels.len();
         let width = waiting.len();
-        check_begin(map, kind, start, load, goal, deadline, room, width)?;
+        check_begin(map, kind, trip, room, width)?;
         let arrival = Arrival {
-            junction: start,
+            junction: trip.start,
             time: 0,
-            load,
+            load: trip.load,
         };
         put(
             labels,
@@ -96,17 +91,17 @@ impl Search {
             },
         );
         let mut heap = Heap::over(waiting, 0);
-        push_roads(map, kind, arrival, 0, deadline, &mut heap);
+        push_roads(map, kind, arrival, 0, trip.deadline, &mut heap);
         self.run = Some(Underway {
             junctions: map.junctions(),
-            goal,
-            deadline,
+            goal: trip.goal,
+            deadline: trip.deadline,
             room: room as u32,
             width,
             listed: 1,
             waiting: heap.len(),
         });
-        if start == goal {
+        if trip.start == trip.goal {
             return Ok(Standing::Arrived(0));
         }
         Ok(Standing::Paused)

@@ -11,7 +11,7 @@ use Rattle.search.proofs.search.Search.begin.Goals as goal
 
 pub returns-in_err-check_begin : goal.returns-in_err-check_begin
 returns-in_err-check_begin g c =
-    let q = query (g.M.Map.rows c.args.map.now) (g.K.Kind.meaning c.args.kind.now) c.args.start c.args.load c.args.goal c.args.deadline in
+    let q = query (g.M.Map.rows c.args.map.now) (g.K.Kind.meaning c.args.kind.now) c.args.trip.start c.args.trip.load c.args.trip.goal c.args.trip.deadline in
     let t = tables c.args.labels.now c.args.waiting.now c.args.labels.now c.args.waiting.now in
     let s = numbers c.args.self.now in let f = c.in_err-check_begin.field-0.0 in
     let p = err_from_is_err_and c.from_residual.result c.from_residual.ensures.1 in
@@ -19,23 +19,23 @@ returns-in_err-check_begin g c =
 
 pub invariant_of-self : goal.invariant_of-self
 invariant_of-self g c =
-    let p = passed (length (g.M.Map.rows c.args.map.now)) ((g.K.Kind.meaning c.args.kind.now).admits c.args.load) c.args.start c.args.goal c.args.deadline (length c.args.labels.now) (length c.args.waiting.now) c.in_ok-check_begin.ensures in
+    let p = passed (length (g.M.Map.rows c.args.map.now)) ((g.K.Kind.meaning c.args.kind.now).admits c.args.trip.load) c.args.trip.start c.args.trip.goal c.args.trip.deadline (length c.args.labels.now) (length c.args.waiting.now) c.in_ok-check_begin.ensures in
     record { sized = (p.some, p.few, omega (arith, c.len.ensures, c.push_roads.ensures.few, c.over-heap.ensures.count_clamped_to_the_slice), p.wide) }
 
-pub returns-then-start-goal : goal.returns-then-start-goal
-returns-then-start-goal g c =
-    let q = query (g.M.Map.rows c.args.map.now) (g.K.Kind.meaning c.args.kind.now) c.args.start c.args.load c.args.goal c.args.deadline in
+pub returns-then-trip : goal.returns-then-trip
+returns-then-trip g c =
+    let q = query (g.M.Map.rows c.args.map.now) (g.K.Kind.meaning c.args.kind.now) c.args.trip.start c.args.trip.load c.args.trip.goal c.args.trip.deadline in
     let h₀ = c.over-heap.result in let h = c.push_roads.new.heap in
     let empty : h₀.len ≡ 0 = omega (arith, c.over-heap.ensures.count_clamped_to_the_slice) in
     begin_keeps q _ (numbers c.args.self.now) _ (Ok (Arrived 0))
     (begun q (g.M.Map.sound c.args.map.now) (g.K.Kind.lawful c.args.kind.now) c.args.labels.now c.args.waiting.now c.in_ok-check_begin.ensures h₀ h empty c.push_roads.ensures.keeps_heap_order c.push_roads.ensures.grown c.put.new.labels _ c.junctions.result c.len.result c.junctions.ensures c.put.ensures (sym c.len.ensures) (search rules) (search rules)
-    (Arrived 0) (sym (ap (λ (b : Bool). cond b (Arrived 0) Paused) (eq-eqb c.args.start c.args.goal c.if-start-goal.true))) (numbers c.args.self.now))
+    (Arrived 0) (sym (ap (λ (b : Bool). cond b (Arrived 0) Paused) (eq-eqb c.args.trip.start c.args.trip.goal c.if-trip.true))) (numbers c.args.self.now))
 
 pub returns : goal.returns
 returns g c =
-    let q = query (g.M.Map.rows c.args.map.now) (g.K.Kind.meaning c.args.kind.now) c.args.start c.args.load c.args.goal c.args.deadline in
+    let q = query (g.M.Map.rows c.args.map.now) (g.K.Kind.meaning c.args.kind.now) c.args.trip.start c.args.trip.load c.args.trip.goal c.args.trip.deadline in
     let h₀ = c.over-heap.result in let h = c.push_roads.new.heap in
     let empty : h₀.len ≡ 0 = omega (arith, c.over-heap.ensures.count_clamped_to_the_slice) in
     begin_keeps q _ (numbers c.args.self.now) _ (Ok Paused)
     (begun q (g.M.Map.sound c.args.map.now) (g.K.Kind.lawful c.args.kind.now) c.args.labels.now c.args.waiting.now c.in_ok-check_begin.ensures h₀ h empty c.push_roads.ensures.keeps_heap_order c.push_roads.ensures.grown c.put.new.labels _ c.junctions.result c.len.result c.junctions.ensures c.put.ensures (sym c.len.ensures) (search rules) (search rules)
-    Paused (sym (ap (λ (b : Bool). cond b (Arrived 0) Paused) (ne_eqb c.args.start c.args.goal c.if-start-goal.false))) (numbers c.args.self.now))
+    Paused (sym (ap (λ (b : Bool). cond b (Arrived 0) Paused) (ne_eqb c.args.trip.start c.args.trip.goal c.if-trip.false))) (numbers c.args.self.now))
