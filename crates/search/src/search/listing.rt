@@ -1,5 +1,5 @@
 //! Listing a label: what its roads offer comes to wait.
-ghost use Rattle.std.specs.Prelude.{◌≡◌, ◌+◌, ◌<◌, ◌≤◌, length, slice_set};
+ghost use Rattle.std.specs.Prelude.{◌≡◌, ◌+◌, ◌<◌, ◌≤◌, length};
 ghost use Rattle.queue.specs.Waiting.{slots, waiting, OverSameSlice, InHeapOrder};
 ghost use Rattle.promises.specs.Order.{leaves_before};
 ghost use Rattle.search.specs.Steps.{offer, GrownBy};
@@ -25,12 +25,8 @@ fn follow<M: Map, K: Kind>(
 ) -> Option<Candidate<K::Load>>
     ensures { result ≡ offer (M.Map.rows map.now) (K.Kind.meaning kind.now) deadline from number place }
 {
-    let Ok(Some(road)) = map.place(from.junction, place) else {
-        return None;
-    };
-    let Some(load) = kind.drive(from.load, road) else {
-        return None;
-    };
+    let road = map.place(from.junction, place).ok()??;
+    let load = kind.drive(from.load, road)?;
     if from.time > deadline || road.seconds > deadline - from.time {
         return None;
     }
@@ -69,12 +65,4 @@ fn push_roads<M: Map, K: Kind>(
             let _ = heap.push(candidate);
         }
     }
-}
-
-// Writes a label.
-fn put<L: Copy>(labels: &mut [Label<L>], at: usize, label: Label<L>)
-    requires { at < length labels.old }
-    ensures { labels.new ≡ slice_set labels.old at label }
-{
-    labels[at] = label;
 }

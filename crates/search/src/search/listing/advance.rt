@@ -13,7 +13,7 @@ ghost use Rattle.queue.specs.Waiting.{slots, waiting, OverSameSlice, InHeapOrder
 ghost use Rattle.promises.specs.Order.{leaves_before};
 ghost use Rattle.search.specs.Steps.{label_serves, served_by, Taken, EachServed};
 
-use super::{push_roads, put};
+use super::push_roads;
 use crate::search::{Search, Underway};
 use front::label::Label;
 use loads::Kind;
@@ -27,13 +27,9 @@ use refusals::refusal::Refusal;
 fn serves<K: Kind>(kind: &K, label: Label<K::Load>, candidate: Candidate<K::Load>) -> bool
     ensures { result ≡ label_serves (K.Kind.meaning kind.now) candidate.label.arrival label }
 {
-    if label.arrival.junction != candidate.label.arrival.junction {
-        return false;
-    }
-    if label.arrival.time > candidate.label.arrival.time {
-        return false;
-    }
-    kind.as_good(label.arrival.load, candidate.label.arrival.load)
+    label.arrival.junction == candidate.label.arrival.junction
+        && label.arrival.time <= candidate.label.arrival.time
+        && kind.as_good(label.arrival.load, candidate.label.arrival.load)
 }
 
 // Whether a listed label serves a candidate.
@@ -108,7 +104,7 @@ impl Underway {
         ensures listed { Lists (M.Map.rows map.now) (K.Kind.meaning kind.now) labels.old labels.new heap.old heap.new (underway_numbers self.old) (underway_numbers self.new) label result }
     {
         let at = self.listed;
-        put(labels, at as usize, label);
+        labels[at as usize] = label;
         push_roads(map, kind, label.arrival, at, self.deadline, heap);
         self.listed = at + 1;
         self.waiting = heap.len();

@@ -8,7 +8,7 @@ ghost use Rattle.promises.specs.Runs.Call.{begin as begin_call};
 ghost use Rattle.promises.specs.Law.{Keeps, NothingToldOfCharts};
 ghost use Rattle.search.specs.SearchNumbers.{numbers};
 
-use super::{push_roads, put};
+use super::push_roads;
 use crate::search::{Search, Underway};
 use front::arrival::Arrival;
 use front::label::Label;
@@ -81,15 +81,11 @@ impl Search {
             time: 0,
             load: trip.load,
         };
-        put(
-            labels,
-            0,
-            Label {
-                arrival,
-                before: 0,
-                place: 0,
-            },
-        );
+        labels[0] = Label {
+            arrival,
+            before: 0,
+            place: 0,
+        };
         let mut heap = Heap::over(waiting, 0);
         push_roads(map, kind, arrival, 0, trip.deadline, &mut heap);
         self.run = Some(Underway {

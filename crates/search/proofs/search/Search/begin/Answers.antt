@@ -28,7 +28,7 @@ returns-then-trip g c =
     let h₀ = c.over-heap.result in let h = c.push_roads.new.heap in
     let empty : h₀.len ≡ 0 = omega (arith, c.over-heap.ensures.count_clamped_to_the_slice) in
     begin_keeps q _ (numbers c.args.self.now) _ (Ok (Arrived 0))
-    (begun q (g.M.Map.sound c.args.map.now) (g.K.Kind.lawful c.args.kind.now) c.args.labels.now c.args.waiting.now c.in_ok-check_begin.ensures h₀ h empty c.push_roads.ensures.keeps_heap_order c.push_roads.ensures.grown c.put.new.labels _ c.junctions.result c.len.result c.junctions.ensures c.put.ensures (sym c.len.ensures) (search rules) (search rules)
+    (begun q (g.M.Map.sound c.args.map.now) (g.K.Kind.lawful c.args.kind.now) c.args.labels.now c.args.waiting.now c.in_ok-check_begin.ensures h₀ h empty c.push_roads.ensures.keeps_heap_order c.push_roads.ensures.grown _ _ c.junctions.result c.len.result c.junctions.ensures refl (sym c.len.ensures) (search rules) (search rules)
     (Arrived 0) (sym (ap (λ (b : Bool). cond b (Arrived 0) Paused) (eq-eqb c.args.trip.start c.args.trip.goal c.if-trip.true))) (numbers c.args.self.now))
 
 pub returns : goal.returns
@@ -37,5 +37,5 @@ returns g c =
     let h₀ = c.over-heap.result in let h = c.push_roads.new.heap in
     let empty : h₀.len ≡ 0 = omega (arith, c.over-heap.ensures.count_clamped_to_the_slice) in
     begin_keeps q _ (numbers c.args.self.now) _ (Ok Paused)
-    (begun q (g.M.Map.sound c.args.map.now) (g.K.Kind.lawful c.args.kind.now) c.args.labels.now c.args.waiting.now c.in_ok-check_begin.ensures h₀ h empty c.push_roads.ensures.keeps_heap_order c.push_roads.ensures.grown c.put.new.labels _ c.junctions.result c.len.result c.junctions.ensures c.put.ensures (sym c.len.ensures) (search rules) (search rules)
+    (begun q (g.M.Map.sound c.args.map.now) (g.K.Kind.lawful c.args.kind.now) c.args.labels.now c.args.waiting.now c.in_ok-check_begin.ensures h₀ h empty c.push_roads.ensures.keeps_heap_order c.push_roads.ensures.grown _ _ c.junctions.result c.len.result c.junctions.ensures refl (sym c.len.ensures) (search rules) (search rules)
     Paused (sym (ap (λ (b : Bool). cond b (Arrived 0) Paused) (ne_eqb c.args.trip.start c.args.trip.goal c.if-trip.false))) (numbers c.args.self.now))
