@@ -4,5 +4,5 @@ mod Stepping
 mod Beginning
 mod Turning
 mod WalkingBack
-mod ChartGrowth
+mod WrittenRows
 mod Answering

@@ -1,5 +1,6 @@
 //! The chart of a search over profiles: rows read off the labels in order.
-ghost use Rattle.std.specs.Prelude.{◌≡◌, ◌≤◌, ◌∷◌, ◌++◌, length, take, drop};
+ghost use Rattle.std.specs.Prelude.{◌≡◌, ◌+◌, ◌≤◌, ◌∷◌, ◌++◌, length, drop};
+ghost use Rattle.std.specs.Iterator.{at_most, YieldsFirst};
 ghost use Rattle.loads.specs.declared.profile.Profile.{Profile as Load};
 ghost use Rattle.promises.specs.Chart.{ChartPromise, charting, begins_plain};
 ghost use Rattle.promises.specs.Runs.{History, Run};
@@ -7,7 +8,7 @@ ghost use Rattle.promises.specs.Runs.Call.{chart as chart_call};
 ghost use Rattle.promises.specs.Law.{Keeps};
 ghost use Rattle.promises.specs.ChartLaw.{ToldByCharts};
 ghost use Rattle.search.specs.SearchNumbers.{numbers};
-ghost use Rattle.charts.specs.Chart.{chart, gets_row};
+ghost use Rattle.charts.specs.Chart.{chart, gets_row, rows_from};
 
 use super::Search;
 use charts::row::Row;
@@ -19,62 +20,89 @@ use refusals::refusal::Refusal;
 fn starts_plain(kind: &ProfileKind, labels: &[Label<Profile>]) -> bool
     ensures { result ≡ begins_plain kind.now.capacity labels.now }
 {
-    if labels.len() == 0 {
-        return false;
-    }
-    let first = labels[0].arrival.load;
-    let plain = kind.plain();
-    first.need == plain.need && first.low == plain.low && first.high == plain.high
+    labels
+        .first()
+        .is_some_and(|first| first.arrival.load == kind.plain())
 }
 
-// Whether a label gets a row, when the earlier rows have come down to the need `least`.
-fn has_row(label: Label<Profile>, goal: u32, least: Option<u32>) -> bool
-    ensures { result ≡ gets_row goal least label }
-{
-    if label.arrival.junction != goal {
-        return false;
-    }
-    match least {
-        None => true,
-        Some(need) => label.arrival.load.need < need,
-    }
+// The rows that labels get, read off in order.
+#[derive(Drop)]
+struct ChartRows<'a> {
+    // the labels that are left, and the number of the first of them
+    labels: &'a [Label<Profile>],
+    number: u32,
+    goal: u32,
+    // the need to which the rows before have come down
+    least: Option<u32>,
+    ghost numbered: { number + length labels.now ≤ 65535 },
 }
 
-// How many rows the first `listed` labels have.
-fn count_rows(labels: &[Label<Profile>], listed: u32, goal: u32) -> u32
-    requires { listed ≤ length labels.now }
-    ensures { result ≡ length (chart goal (take listed labels.now)) }
-{
-    let mut least = None;
-    let mut count = 0;
-    for i in 0..listed {
-        let label = labels[i as usize];
-        if has_row(label, goal, least) {
-            least = Some(label.arrival.load.need);
-            count += 1;
+impl<'a> ChartRows<'a> {
+    // The rows of labels, the first of which has the number 0.
+    fn new(labels: &'a [Label<Profile>], goal: u32) -> ChartRows<'a>
+        requires { length labels.now ≤ 65535 }
+        ensures labels_left { result.labels.now ≡ labels.now }
+        ensures rows_left { rows_from result.goal result.number result.least result.labels.now ≡ chart goal labels.now }
+    {
+        ChartRows {
+            labels,
+            number: 0,
+            goal,
+            least: None,
         }
     }
-    count
+
+    // Whether a label gets a row.
+    fn has_row(&self, label: &Label<Profile>) -> bool
+        ensures { result ≡ gets_row self.now.goal self.now.least label.now }
+    {
+        label.arrival.junction == self.goal
+            && self.least.is_none_or(|need| label.arrival.load.need < need)
+    }
 }
 
-// Writes the rows of the first `listed` labels.
-fn write_rows(labels: &[Label<Profile>], listed: u32, goal: u32, rows: &mut [Row])
-    requires { (listed ≤ length labels.now) × (length (chart goal (take listed labels.now)) ≤ length rows.old) }
-    ensures { rows.new ≡ chart goal (take listed labels.now) ++ drop (length (chart goal (take listed labels.now))) rows.old }
-{
-    let mut least = None;
-    let mut end: usize = 0;
-    for i in 0..listed {
-        let label = labels[i as usize];
-        if has_row(label, goal, least) {
-            least = Some(label.arrival.load.need);
-            rows[end] = Row {
-                need: label.arrival.load.need,
-                seconds: label.arrival.time,
-                label: i,
-            };
-            end += 1;
+impl Iterator for ChartRows<'_> {
+    type Item = Row;
+
+    ghost next_gives = { YieldsFirst (λ s. rows_from s.goal s.number s.least s.labels.now) };
+
+    ghost remaining = { λ s. at_most (length s.labels.now) };
+
+    fn next(&mut self) -> Option<Row> {
+        while let Some((label, others)) = self.labels.split_first() {
+            let number = self.number;
+            let found = self.has_row(label);
+            self.labels = others;
+            self.number += 1;
+            if found {
+                let need = label.arrival.load.need;
+                self.least = Some(need);
+                return Some(Row {
+                    need,
+                    seconds: label.arrival.time,
+                    label: number,
+                });
+            }
         }
+        None
+    }
+}
+
+// How many rows labels have.
+fn count_rows(labels: &[Label<Profile>], goal: u32) -> u32
+    requires { length labels.now ≤ 65535 }
+    ensures { result ≡ length (chart goal labels.now) }
+{
+    ChartRows::new(labels, goal).count() as u32
+}
+
+// Writes the rows of labels.
+fn write_rows(labels: &[Label<Profile>], goal: u32, rows: &mut [Row])
+    requires { (length labels.now ≤ 65535) × (length (chart goal labels.now) ≤ length rows.old) }
+    ensures { rows.new ≡ chart goal labels.now ++ drop (length (chart goal labels.now)) rows.old }
+{
+    for (i, row) in ChartRows::new(labels, goal).enumerate() {
+        rows[i] = row;
     }
 }
 
@@ -99,11 +127,12 @@ impl Search {
         if !starts_plain(kind, labels) {
             return Err(Refusal::NotPlainProfile);
         }
-        let count = count_rows(labels, run.listed, run.goal);
+        let listed = &labels[..run.listed as usize];
+        let count = count_rows(listed, run.goal);
         if rows.len() < count as usize {
             return Err(Refusal::BufferTooShort(count));
         }
-        write_rows(labels, run.listed, run.goal, rows);
+        write_rows(listed, run.goal, rows);
         Ok(count)
     }
 }

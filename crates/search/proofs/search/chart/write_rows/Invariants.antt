@@ -1,6 +1,12 @@
-use Rattle.std.proofs.Common.{◌≡◌, ◌++◌, length, drop}
-use Rattle.search.proofs.ChartGrowth.{least_at, rows_at}
+use Rattle.charts.specs.Chart.{chart, rows_from}
+use Rattle.search.proofs.WrittenRows.{Written}
 use Rattle.search.proofs.search.chart.write_rows.Given as goal
 
 abbrev pub invariant-loop-i : goal.invariant-loop-i
-invariant-loop-i l = (l.least ≡ least_at l.goal l.labels l.i) × (l.end ≡ length (rows_at l.goal l.labels l.i)) × (l.rows ≡ rows_at l.goal l.labels l.i ++ drop l.end l.initial.rows)
+invariant-loop-i l =
+    let rows = l.i-iterator.iter in
+    record {
+      can_next : (goal.iterator-loop-i).can_next l.i-iterator;
+      is_finite : (goal.iterator-loop-i).is_finite l.i-iterator;
+      written : Written (chart l.goal l.labels) l.initial.rows l.rows (rows_from rows.goal rows.number rows.least rows.labels.now) l.i-iterator.count;
+    }
