@@ -1,3 +1,4 @@
 pub mod SearchNumbers
 pub mod Steps
 pub mod Turns
+pub mod WalksBack

@@ -1,5 +1,6 @@
 //! The walk of a listed label, read back along the labels before it.
 ghost use Rattle.std.specs.Prelude.{◌≡◌, ◌<◌, ◌≤◌, List, ◌∷◌, ◌++◌, length, drop};
+ghost use Rattle.std.specs.Iterator.{at_most};
 ghost use Rattle.promises.specs.Trace.{TracePromise};
 ghost use Rattle.promises.specs.Runs.{History, Run};
 ghost use Rattle.promises.specs.Runs.Call.{trace as trace_call};
@@ -12,22 +13,46 @@ use front::label::Label;
 use front::leg::Leg;
 use refusals::refusal::Refusal;
 
+// The legs of a label's walk, the last one first.
+#[derive(Drop)]
+struct LegsBack<'a, L> {
+    labels: &'a [Label<L>],
+    // the label to which the legs that are left lead
+    label: u32,
+    ghost inside: { label < length labels.now },
+}
+
+impl<L: Copy> Iterator for LegsBack<'_, L> {
+    ghost use Rattle.search.specs.WalksBack.{OneLegBack};
+
+    type Item = Leg<L>;
+
+    ghost next_gives = { OneLegBack };
+
+    ghost remaining = { λ s. at_most s.label };
+
+    fn next(&mut self) -> Option<Leg<L>> {
+        let here = self.labels[self.label as usize];
+        if here.before >= self.label {
+            return None;
+        }
+        let from = self.labels[here.before as usize];
+        self.label = here.before;
+        Some(Leg {
+            junction: from.arrival.junction,
+            place: here.place,
+            time: here.arrival.time,
+            load: here.arrival.load,
+        })
+    }
+}
+
 // How many roads a label's walk has.
 fn count_roads<L: Copy>(labels: &[Label<L>], label: u32) -> u32
     requires { label < length labels.now }
     ensures { (w : List (Leg L)) → Traces labels.now label w → result ≡ length w }
 {
-    let mut at = label;
-    let mut count = 0;
-    while at != 0 {
-        let before = labels[at as usize].before;
-        if before >= at {
-            return count;
-        }
-        at = before;
-        count += 1;
-    }
-    count
+    LegsBack { labels, label }.count() as u32
 }
 
 // Writes a label's walk of `count` roads, the last road first.
@@ -36,23 +61,8 @@ fn write_walk<L: Copy>(labels: &[Label<L>], label: u32, count: u32, walk: &mut [
     ensures later_untouched { drop count walk.new ≡ drop count walk.old }
     ensures legs { (w : List (Leg L)) → Traces labels.now label w → count ≡ length w → walk.new ≡ w ++ drop (length w) walk.old }
 {
-    let mut at = label as usize;
-    let mut end = count as usize;
-    while end > 0 {
-        let before = labels[at].before as usize;
-        if before >= at {
-            return;
-        }
-        let here = labels[at];
-        let from = labels[before];
-        end -= 1;
-        walk[end] = Leg {
-            junction: from.arrival.junction,
-            place: here.place,
-            time: here.arrival.time,
-            load: here.arrival.load,
-        };
-        at = before;
+    for (i, leg) in (0..count as usize).rev().zip(LegsBack { labels, label }) {
+        walk[i] = leg;
     }
 }
 

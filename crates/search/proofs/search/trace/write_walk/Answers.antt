@@ -1,30 +1,35 @@
-use Rattle.std.proofs.Common.{◌-◌, ◌<◌, length, refl, ◌∙◌, arith, rules}
+use Rattle.std.proofs.Common.{inl, inr, ◌∙◌, arith, rules, tests}
 use Rattle.std.proofs.lemmas.List.{drop-set-lt}
-use Rattle.search.proofs.WalkingBack.{written_more, written_all, written_none, halfway_stuck}
+use Rattle.search.proofs.WalkingBack.{none_written, one_more_written, all_written, no_leg_left}
 use Rattle.search.proofs.search.trace.write_walk.Goals as goal
 
-pub loop-end-preserved : goal.loop-end-preserved
-loop-end-preserved g c = (
-  omega (arith, c.loop-end.invariant.0),
-  omega (arith, c.loop-end.invariant.1),
-  drop-set-lt c.args.count c.loop-end.walk (c.loop-end.end - 1) _ (omega (arith, c.loop-end.invariant.0, c.loop-end-test.true)) ∙ c.loop-end.invariant.2,
-  λ w t e. written_more c.args.labels.now w c.loop-end.at c.loop-end.end c.args.walk.now c.loop-end.walk c.index-labels-at.result c.index-labels-at-in-loop-end.result c.index-labels-before.result c.loop-end-test.true (omega (arith, c.loop-end.invariant.0)) c.index-labels-at-in-loop-end.is c.index-labels-before.is (c.loop-end.invariant.3 w t e),
-)
-
-pub offset_bounds-walk-end : goal.offset_bounds-walk-end
-offset_bounds-walk-end g c = let h : c.loop-end.end - 1 < length c.args.walk.now = omega (arith, c.loop-end.invariant.0) in search rules
-
-pub returns-then-before-at : goal.returns-then-before-at
-returns-then-before-at g c = record {
-  later_untouched = c.loop-end.invariant.2;
-  legs = λ w t e. absurd (halfway_stuck c.args.labels.now w c.loop-end.at c.loop-end.end c.args.walk.now c.loop-end.walk c.index-labels-at.result c.loop-end-test.true c.if-before-at.true (c.loop-end.invariant.3 w t e));
+pub loop-i-init : goal.loop-i-init
+loop-i-init g c = record {
+  can_next = search (rules, tests);
+  is_finite = search (rules, tests);
+  from_the_first = search rules;
+  within = search rules;
+  later_untouched = search rules;
+  halfway = λ w t e. search (rules, none_written);
 }
+
+pub loop-i-preserved : goal.loop-i-preserved
+loop-i-preserved g c =
+    let ((_, (_, at, more)), back) = c.in-Some.ensures.steps in
+    record {
+      can_next = search (rules, tests);
+      is_finite = search (rules, tests);
+      from_the_first = search rules;
+      within = search rules;
+      later_untouched = drop-set-lt c.args.count c.loop-i.walk c.in-Some.i c.in-Some.leg (omega arith) ∙ c.loop-i.invariant.later_untouched;
+      halfway = λ w t e. one_more_written _ _ _ _ _ _ _ _ _ more at (omega arith) back (c.loop-i.invariant.halfway w t e);
+    }
 
 pub returns : goal.returns
 returns g c = record {
-  later_untouched = c.loop-end.invariant.2;
-  legs = λ w t e. written_all c.args.labels.now w c.loop-end.at c.loop-end.end c.args.walk.now c.loop-end.walk c.loop-end-test.false (c.loop-end.invariant.3 w t e);
+  later_untouched = c.loop-i.invariant.later_untouched;
+  legs = λ w t e. let h = c.loop-i.invariant.halfway w t e in elim c.in-None.ensures.steps [
+    | inl p ↦ all_written _ w _ _ _ (omega (arith, p.1)) h
+    | inr p ↦ no_leg_left _ p.0 w _ _ _ p.1 h
+  ];
 }
-
-pub loop-end-init : goal.loop-end-init
-loop-end-init g c = (omega arith, c.requires.0, refl, λ w t e. written_none c.args.labels.now w c.args.label c.args.count c.args.walk.now t e)
