@@ -1,21 +1,15 @@
-use Rattle.std.proofs.Common.{◌≡◌, Bool, cond, length, Ok, Err, sym, refl, ap, arith, rules}
+use Rattle.std.proofs.Common.{◌≡◌, Bool, cond, length, Ok, sym, refl, ap, arith, rules}
 use Rattle.std.proofs.lemmas.Bool.{eq-eqb, ne_eqb}
-use Rattle.std.proofs.lemmas.Result.{err_from_is_err_and}
+use Rattle.std.proofs.lemmas.Grind.{common_steps}
 use Rattle.promises.specs.declared.standing.Standing.TheVariants.{Paused, Arrived}
-use Rattle.promises.specs.Numbers.{tables, AllUnchanged}
-use Rattle.promises.specs.Begin.{query, Begun}
+use Rattle.promises.specs.Begin.{query}
 use Rattle.search.specs.SearchNumbers.{numbers}
 use Rattle.search.proofs.Beginning.{passed, begun}
-use Rattle.search.proofs.Answering.{begin_keeps, refuses}
+use Rattle.search.proofs.Answering.{begin_keeps}
 use Rattle.search.proofs.search.Search.begin.Goals as goal
 
 pub returns-in_err-check_begin : goal.returns-in_err-check_begin
-returns-in_err-check_begin g c =
-    let q = query (g.M.Map.rows c.args.map.now) (g.K.Kind.meaning c.args.kind.now) c.args.trip.start c.args.trip.load c.args.trip.goal c.args.trip.deadline in
-    let t = tables c.args.labels.now c.args.waiting.now c.args.labels.now c.args.waiting.now in
-    let s = numbers c.args.self.now in let f = c.in_err-check_begin.field-0.0 in
-    let p = err_from_is_err_and c.from_residual.result c.from_residual.ensures.1 in
-    rw (p.1, p.2) (begin_keeps q t s s (Err f) (refuses _ f (AllUnchanged t s s) (Begun q t s) c.in_err-check_begin.ensures (refl, refl, refl)))
+returns-in_err-check_begin g c = begin_keeps _ _ _ _ _ (grind (arith, common_steps))
 
 pub invariant_of-self : goal.invariant_of-self
 invariant_of-self g c =
