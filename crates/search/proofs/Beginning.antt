@@ -26,11 +26,8 @@ use Rattle.promises.specs.Begin.{first_label, begin_check, Begun, BeginPromise}
 use Rattle.search.proofs.Queueing.{has_none, waits, heaped, heaped_zero}
 use Rattle.search.proofs.OnTheFront.{spreads, offer_leads}
 
-some_none : {X : Type 0} (x : X) → Some x ≡ None → ⊥
-some_none x e = let z : ◌≡◌ {A = ℕ} 0 1 = cc e in omega (arith, z)
-
 pub passes : (b : Bool) (f : Refusal) (o : Option Refusal) → cond b (Some f) o ≡ None → (b ≡ false) × (o ≡ None)
-passes true f o e = absurd (some_none f e)
+passes true f o e = cc
 passes false f o e = (refl, e)
 
 pub record Passed (n : ℕ) (t : Bool) (a b D N W : ℕ) : Type 0 where

@@ -12,7 +12,7 @@ use Rattle.queue.specs.Heaps.{Heaped, HeapedFrom, Least}
 use Rattle.queue.specs.Waiting.{slots, waiting, OverSameSlice, InHeapOrder, Pushed, Popped}
 use Rattle.promises.specs.declared.candidate.Candidate.{Candidate}
 use Rattle.promises.specs.Order.{leaves_before}
-use Rattle.search.specs.Steps.{served_by, GrownBy, Dropped, Taken, EachServed}
+use Rattle.search.specs.Steps.{served_by, GrownBy, Dropped, Taken}
 
 pub has_here : {X : Type 0} (x : X) (xs : List X) → Has (x ∷ xs) x
 has_here x xs = (0, omega arith, λ d. refl)
@@ -26,9 +26,6 @@ has_cons x y xs (suc k, h, e) = inr (k, omega (arith, h), e)
 
 pub has_none : {X : Type 0} (x : X) → Has [] x → ⊥
 has_none x (k, h, e) = omega (arith, h)
-
-pub grown_none : {X : Type 0} (off : ℕ → Option X) (cs : List X) → GrownBy off 0 cs cs
-grown_none off cs = record { each_waited_or_was_offered = λ d h. inl h; what_waited_waits = λ d h. h; what_was_offered_waits = λ k d h e. absurd (omega (arith, h)) }
 
 pub grown_some : {X : Type 0} (off : ℕ → Option X) (n : ℕ) (cs cs₁ cs₂ : List X) (e : X) → GrownBy off n cs cs₁ → IsPermutation (e ∷ cs₁) cs₂ → off n ≡ Some e → GrownBy off (n + 1) cs cs₂
 grown_some {X} off n cs cs₁ cs₂ e g s o = record { each_waited_or_was_offered = λ d h. only' d (has_cons e d cs₁ (has_shuffled cs₂ (e ∷ cs₁) d (IsPermutation-sym (e ∷ cs₁) cs₂ s) h)); what_waited_waits = λ d h. to d (has_there e d cs₁ (g.what_waited_waits d h)); what_was_offered_waits = λ k d h p. came' k d h p (cases_order k n) }
@@ -87,9 +84,6 @@ module _ {L : Type 0} where
   pub same_on : (h k l : Heap (Candidate L)) → OverSameSlice h k → OverSameSlice k l → OverSameSlice h l
   same_on h k l a b = record { same_lender = b.same_lender ∙ a.same_lender; same_length = b.same_length ∙ a.same_length }
 
-  pub filling : (off : ℕ → Option (Candidate L)) (h : Heap (Candidate L)) → Filling off 0 h h
-  filling off h = record { over_the_same_slice = record { same_lender = refl; same_length = refl }; few = omega arith; grown = grown_none off (waiting h); keeps_heap_order = λ r. r }
-
   -- a push that has room is done
   pub pushed : {A E : Type 0} (h k : Heap (Candidate L)) (e : Candidate L) (r : Result A E) → h.len < length (slots h) → MatchResult r (λ _. Pushed leaves_before h e k) (λ _. (h.len ≡ length (slots h)) × (k ≡ h)) → Pushed leaves_before h e k
   pushed h k e (Ok a) room p = p
@@ -107,17 +101,11 @@ module _ {L : Type 0} where
   filling_skip off n h₀ h f o = record { over_the_same_slice = f.over_the_same_slice; few = omega (arith, f.few); grown = grown_skip off n (waiting h₀) (waiting h) f.grown o; keeps_heap_order = f.keeps_heap_order }
 
   module _ (m : Meaning L) (ls : List (Label L)) where
-    pub dropped_none : (cs : List (Candidate L)) → Dropped m ls cs cs
-    dropped_none cs = record { each_waited = λ d h. h; what_waited_is_served_or_waits = λ d h. inr h }
-
     pub dropped_shuffled : (cs cs₁ cs₂ : List (Candidate L)) → Dropped m ls cs cs₁ → IsPermutation cs₁ cs₂ → Dropped m ls cs cs₂
     dropped_shuffled cs cs₁ cs₂ p s = record { each_waited = λ d h. p.each_waited d (has_shuffled cs₂ cs₁ d (IsPermutation-sym cs₁ cs₂ s) h); what_waited_is_served_or_waits = λ d h. ⊎_elim inl (λ x. inr (has_shuffled cs₁ cs₂ d s x)) (p.what_waited_is_served_or_waits d h) }
 
     pub dropped_one : (cs cs₂ : List (Candidate L)) (c : Candidate L) → Dropped m ls cs (c ∷ cs₂) → served_by m ls c.label.arrival ≡ true → Dropped m ls cs cs₂
     dropped_one cs cs₂ c p e = record { each_waited = λ d h. p.each_waited d (has_there c d cs₂ h); what_waited_is_served_or_waits = λ d h. ⊎_elim inl (λ x. ⊎_elim (λ q. inl (subst (λ (y : Candidate L). served_by m ls y.label.arrival ≡ true) q e)) inr (has_cons c d cs₂ x)) (p.what_waited_is_served_or_waits d h) }
-
-    pub dropped_all : (cs cs₁ : List (Candidate L)) → Dropped m ls cs cs₁ → length cs₁ ≡ 0 → EachServed m ls cs
-    dropped_all cs cs₁ p z d h = ⊎_elim (λ x. x) (λ (x : Has cs₁ d). absurd (omega (arith, z, x.1))) (p.what_waited_is_served_or_waits d h)
 
     -- a queue from which some served candidates were taken
     pub record Dropping (h₀ h : Heap (Candidate L)) : Type 0 where
@@ -125,9 +113,6 @@ module _ {L : Type 0} where
       pub few : h.len ≤ h₀.len
       pub dropped : Dropped m ls (waiting h₀) (waiting h)
       pub keeps_heap_order : InHeapOrder leaves_before h₀ → InHeapOrder leaves_before h
-
-    pub dropping : (h : Heap (Candidate L)) → Dropping h h
-    dropping h = record { over_the_same_slice = record { same_lender = refl; same_length = refl }; few = omega arith; dropped = dropped_none (waiting h); keeps_heap_order = λ r. r }
 
     pub dropping_one : (h₀ h k : Heap (Candidate L)) (c : Candidate L) → Dropping h₀ h → OverSameSlice h k → Popped leaves_before h c k → served_by m ls c.label.arrival ≡ true → Dropping h₀ k
     dropping_one h₀ h k c d t o e = record {
@@ -137,22 +122,8 @@ module _ {L : Type 0} where
       keeps_heap_order = λ x. o.keeps_heap_order (d.keeps_heap_order x);
     }
 
-    pub took : (h₀ h k : Heap (Candidate L)) (c : Candidate L) → Dropping h₀ h → OverSameSlice h k → Popped leaves_before h c k → served_by m ls c.label.arrival ≡ false →
-        record { over_the_same_slice : OverSameSlice h₀ k; keeps_heap_order : InHeapOrder leaves_before h₀ → InHeapOrder leaves_before k; taken : (k.len < h₀.len) × Taken m ls (waiting h₀) c (waiting k); least : InHeapOrder leaves_before h₀ → Least leaves_before c (c ∷ waiting k) }
-    took h₀ h k c d t o e = record {
-      over_the_same_slice = same_on h₀ h k d.over_the_same_slice t;
-      keeps_heap_order = λ x. o.keeps_heap_order (d.keeps_heap_order x);
-      taken = (omega (arith, d.few, o.counts_one_fewer), record { dropped_before_it = dropped_shuffled (waiting h₀) (waiting h) (c ∷ waiting k) d.dropped o.removes_exactly_the_answer; not_served = e });
-      least = λ x. all_shuffled (λ y. leaves_before y c ≡ false) (waiting h) (c ∷ waiting k) o.removes_exactly_the_answer (o.was_first.none_comes_before_it (d.keeps_heap_order x));
-    }
+    pub taken : (h₀ h k : Heap (Candidate L)) (c : Candidate L) → Dropping h₀ h → Popped leaves_before h c k → served_by m ls c.label.arrival ≡ false → (k.len < h₀.len) × Taken m ls (waiting h₀) c (waiting k)
+    taken h₀ h k c d o e = (omega (arith, d.few, o.counts_one_fewer), record { dropped_before_it = dropped_shuffled (waiting h₀) (waiting h) (c ∷ waiting k) d.dropped o.removes_exactly_the_answer; not_served = e })
 
-    pub emptied : (h₀ h k : Heap (Candidate L)) → Dropping h₀ h → OverSameSlice h k → (h.len ≡ 0) × (k ≡ h) →
-        record { over_the_same_slice : OverSameSlice h₀ k; keeps_heap_order : InHeapOrder leaves_before h₀ → InHeapOrder leaves_before k; taken : (k.len ≡ 0) × EachServed m ls (waiting h₀); least : InHeapOrder leaves_before h₀ → k.len ≡ 0 }
-    emptied h₀ h k d t (z, e) =
-        let none : k.len ≡ 0 = ap (λ (x : Heap (Candidate L)). x.len) e ∙ z in
-        record {
-          over_the_same_slice = same_on h₀ h k d.over_the_same_slice t;
-          keeps_heap_order = λ x. subst (λ (y : Heap (Candidate L)). InHeapOrder leaves_before y) (sym e) (d.keeps_heap_order x);
-          taken = (none, dropped_all (waiting h₀) (waiting h) d.dropped (ap (λ (n : ℕ). length (take n (slots h))) z));
-          least = λ _. none;
-        }
+    pub first : (h₀ h k : Heap (Candidate L)) (c : Candidate L) → Dropping h₀ h → Popped leaves_before h c k → InHeapOrder leaves_before h₀ → Least leaves_before c (c ∷ waiting k)
+    first h₀ h k c d o x = all_shuffled (λ y. leaves_before y c ≡ false) (waiting h) (c ∷ waiting k) o.removes_exactly_the_answer (o.was_first.none_comes_before_it (d.keeps_heap_order x))

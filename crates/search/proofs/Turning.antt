@@ -1,5 +1,5 @@
 -- The turns of an advance, one after the other.
-use Rattle.std.proofs.Common.{◌≡◌, ℕ, ◌+◌, ◌-◌, ◌<◌, ◌≤◌, not, ◌&&◌, eqb, List, length, take, drop, Some, None, Option, sym, refl, ap, ◌∙◌, subst, ⊎_elim, arith}
+use Rattle.std.proofs.Common.{◌≡◌, ℕ, ◌+◌, ◌-◌, ◌<◌, ◌≤◌, not, ◌&&◌, eqb, List, length, take, drop, Some, None, Option, sym, ap, ◌∙◌, subst, ⊎_elim, arith}
 use Rattle.std.proofs.lemmas.List.{take-take, drop-drop}
 use Rattle.std.proofs.lemmas.Bool.{cases_lt, eqb-true, and_parts, not-false}
 use Rattle.maps.specs.Rows.{Rows}
@@ -34,16 +34,6 @@ pub record AfterTurns {L : Type 0} (rows : Rows) (m : Meaning L) (i : ℕ) (s₀
   pub later_untouched : drop s.listed ls ≡ drop s.listed ls₀
   pub still : s₀.waiting ≡ 0 → s.waiting ≡ 0
   pub under_way : (q : Query L) → q.rows ≡ rows → q.kind ≡ m → StandsFor q s₀ ls₀ ws₀ → UnderWay q s₀.listed s ls ws
-
-pub no_turn_yet : {L : Type 0} (rows : Rows) (m : Meaning L) (s : Numbers) (ls : List (Label L)) (ws : List (Candidate L)) → AfterTurns rows m 0 s ls ws s ls ws
-no_turn_yet rows m s ls ws = record {
-  count = omega arith;
-  keeps_its_query = record { begun = refl; junctions = refl; goal = refl; deadline = refl; room = refl; width = refl };
-  earlier_untouched = refl;
-  later_untouched = refl;
-  still = λ z. z;
-  under_way = λ q er ek st. record { stands = st; none = λ i x lo hi p e. omega (arith, lo, hi) };
-}
 
 same_later : {X : Type 0} (m n : ℕ) (xs ys : List X) → m ≤ n → drop m xs ≡ drop m ys → drop n xs ≡ drop n ys
 same_later {X} m n xs ys le e =
@@ -130,7 +120,7 @@ budget_used rows m budget i s₀ s ls₀ ls ws₀ ws inv ei fits p lens el ew c 
   later_labels_untouched = inv.later_untouched;
   keeps_its_query = inv.keeps_its_query;
   nothing_comes_to_wait_once_nothing_waits = inv.still;
-  nothing_waits_once_ended = λ e. absurd (let z : ◌≡◌ {A = ℕ} 0 1 = cc (c.0, e) in omega (arith, z));
+  nothing_waits_once_ended = λ e. cc c.0;
   for_its_query = λ q er ek st. let u = inv.under_way q er ek st in record {
     listed_labels_begin_the_front = subst (λ n. FrontBegins q (arrivals (take n ls))) (sym c.2) u.stands.invariant.listed_begin_the_front;
     standing_says = subst (λ x. StandingSays q budget ls s₀.listed s.listed x) (sym c.0) (omega (arith, inv.count, ei), u.none);

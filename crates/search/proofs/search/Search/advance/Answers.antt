@@ -1,6 +1,6 @@
 use Rattle.std.proofs.Common.{length, sym, ap, ◌∙◌, arith, rules}
 use Rattle.search.specs.SearchNumbers.{numbers, underway_numbers, numbers_of_run}
-use Rattle.search.proofs.Turning.{no_turn_yet, lengths, one_turn_more, last_turn, budget_used}
+use Rattle.search.proofs.Turning.{lengths, one_turn_more, last_turn, budget_used}
 use Rattle.search.proofs.Answering.{advance_keeps, advance_accepts}
 use Rattle.search.proofs.search.Search.advance.Goals as goal
 
@@ -21,9 +21,6 @@ returns-in-Some-turn g c =
 pub loop-preserved : goal.loop-preserved
 loop-preserved g c =
     one_turn_more (g.M.Map.rows c.args.map.now) (g.K.Kind.meaning c.args.kind.now) c.loop.counter (underway_numbers c.in-Some.run') (underway_numbers c.loop.run) (underway_numbers c.turn.new.self) c.args.labels.now c.loop.labels c.turn.new.labels c.args.waiting.now c.loop.waiting c.turn.new.waiting c.loop.invariant c.in_default-turn.ensures
-
-pub loop-init : goal.loop-init
-loop-init g c = no_turn_yet _ _ _ _ _
 
 pub returns : goal.returns
 returns g c =

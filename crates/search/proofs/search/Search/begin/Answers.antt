@@ -1,5 +1,4 @@
-use Rattle.std.proofs.Common.{◌≡◌, Bool, cond, length, Ok, sym, refl, ap, arith, rules}
-use Rattle.std.proofs.lemmas.Bool.{eq-eqb, ne_eqb}
+use Rattle.std.proofs.Common.{◌≡◌, length, Ok, sym, refl, arith, rules}
 use Rattle.std.proofs.lemmas.Grind.{common_steps}
 use Rattle.promises.specs.declared.standing.Standing.TheVariants.{Paused, Arrived}
 use Rattle.promises.specs.Begin.{query}
@@ -23,7 +22,7 @@ returns-then-trip g c =
     let empty : h₀.len ≡ 0 = omega (arith, c.over-heap.ensures.count_clamped_to_the_slice) in
     begin_keeps q _ (numbers c.args.self.now) _ (Ok (Arrived 0))
     (begun q (g.M.Map.sound c.args.map.now) (g.K.Kind.lawful c.args.kind.now) c.args.labels.now c.args.waiting.now c.in_ok-check_begin.ensures h₀ h empty c.push_roads.ensures.keeps_heap_order c.push_roads.ensures.grown _ _ c.junctions.result c.len.result c.junctions.ensures refl (sym c.len.ensures) (search rules) (search rules)
-    (Arrived 0) (sym (ap (λ (b : Bool). cond b (Arrived 0) Paused) (eq-eqb c.args.trip.start c.args.trip.goal c.if-trip.true))) (numbers c.args.self.now))
+    (Arrived 0) (search rules) (numbers c.args.self.now))
 
 pub returns : goal.returns
 returns g c =
@@ -32,4 +31,4 @@ returns g c =
     let empty : h₀.len ≡ 0 = omega (arith, c.over-heap.ensures.count_clamped_to_the_slice) in
     begin_keeps q _ (numbers c.args.self.now) _ (Ok Paused)
     (begun q (g.M.Map.sound c.args.map.now) (g.K.Kind.lawful c.args.kind.now) c.args.labels.now c.args.waiting.now c.in_ok-check_begin.ensures h₀ h empty c.push_roads.ensures.keeps_heap_order c.push_roads.ensures.grown _ _ c.junctions.result c.len.result c.junctions.ensures refl (sym c.len.ensures) (search rules) (search rules)
-    Paused (sym (ap (λ (b : Bool). cond b (Arrived 0) Paused) (ne_eqb c.args.trip.start c.args.trip.goal c.if-trip.false))) (numbers c.args.self.now))
+    Paused (search rules) (numbers c.args.self.now))

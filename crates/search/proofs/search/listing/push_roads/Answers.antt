@@ -1,12 +1,9 @@
 use Rattle.std.proofs.Common.{◌≡◌, ◌+◌, ◌<◌, length, sym, subst, arith}
 use Rattle.queue.specs.Waiting.{slots}
 use Rattle.search.specs.Steps.{offer}
-use Rattle.search.proofs.Queueing.{Filling, filling, filling_some, filling_skip, pushed}
+use Rattle.search.proofs.Queueing.{Filling, filling_some, filling_skip, pushed}
 use Rattle.search.proofs.search.listing.push_roads.Goals as goal
 use Rattle.search.proofs.search.listing.push_roads.Goals.{in-Some, in_default}
-
-pub loop-place-init : goal.loop-place-init
-loop-place-init g c = filling _ _
 
 pub loop-place-preserved : goal.loop-place-preserved
 loop-place-preserved g c =
