@@ -10,6 +10,11 @@ use Rattle.search.proofs.search.Search.begin.Goals as goal
 pub returns-in_err-check_begin : goal.returns-in_err-check_begin
 returns-in_err-check_begin g c = begin_keeps _ _ _ _ _ (grind (arith, common_steps))
 
+pub overflow_cast-self : goal.overflow_cast-self
+overflow_cast-self g c =
+    let p = passed (length (g.M.Map.rows c.args.map.now)) ((g.K.Kind.meaning c.args.kind.now).admits c.args.trip.load) c.args.trip.start c.args.trip.goal c.args.trip.deadline (length c.args.labels.now) (length c.args.waiting.now) c.in_ok-check_begin.ensures in
+    omega (arith, p.few)
+
 pub invariant_of-self : goal.invariant_of-self
 invariant_of-self g c =
     let p = passed (length (g.M.Map.rows c.args.map.now)) ((g.K.Kind.meaning c.args.kind.now).admits c.args.trip.load) c.args.trip.start c.args.trip.goal c.args.trip.deadline (length c.args.labels.now) (length c.args.waiting.now) c.in_ok-check_begin.ensures in
