@@ -1,7 +1,7 @@
 -- The legs of a label's walk, read back along its links.
 use Rattle.std.proofs.Common.{◌≡◌, ℕ, ◌+◌, ◌<◌, ◌≤◌, List, [], ◌∷◌, ◌++◌, length, get_or, drop, set, Some, None, sym, refl, ap, ◌∙◌, subst, append_assoc, append-nil, arith}
 use Rattle.std.proofs.lemmas.List.{length_push, drop-set, nil_from_length}
-use Rattle.std.specs.Iterator.{YieldsThen}
+use Rattle.std.specs.Iterator.{Drains, YieldsThen}
 use Rattle.front.specs.declared.label.Label.{Label}
 use Rattle.front.specs.declared.leg.Leg.{Leg}
 use Rattle.front.specs.Legs.{leg_of}
@@ -24,12 +24,17 @@ pub last_leg : {L : Type 0} (ls : List (Label L)) (n : ℕ) (d e : Label L) → 
 last_leg ls n d e low w start_label = absurd (omega (arith, low))
 last_leg ls n d e low w (one_label_more j x y v p s lt f t) = rw (s.1 d, f.1 e) (v, t, refl)
 
+pub ruleset one_leg_back = (no_leg, last_leg)
+
 -- going back until no leg is left takes as many steps as the walk has legs
-pub counted : {L : Type 0} (s u : LegsBack L) (xs : List (Leg L)) → YieldsThen OneLegBack s xs None u → (w : List (Leg L)) → Traces s.labels.now s.label w → length xs ≡ length w
-counted s u [] (r, e, (_, none)) w t = sym (ap length (none w (subst (λ (z : LegsBack _). Traces z.labels.now z.label w) e t)))
-counted s u (x ∷ xs) (r, (k, (same, step), rest), last) w t =
+legs_counted : {L : Type 0} (s u : LegsBack L) (xs : List (Leg L)) → YieldsThen OneLegBack s xs None u → (w : List (Leg L)) → Traces s.labels.now s.label w → length xs ≡ length w
+legs_counted s u [] (r, e, (_, none)) w t = sym (ap length (none w (subst (λ (z : LegsBack _). Traces z.labels.now z.label w) e t)))
+legs_counted s u (x ∷ xs) (r, (k, (same, step), rest), last) w t =
     let (v, tv, e) = step w t in
-    omega (arith, counted k u xs (r, rest, last) v (subst (λ z. Traces z.now k.label v) (sym same) tv), ap length e, length_push v x)
+    omega (arith, legs_counted k u xs (r, rest, last) v (subst (λ z. Traces z.now k.label v) (sym same) tv), ap length e, length_push v x)
+
+pub counted : {L : Type 0} (s : LegsBack L) (count : ℕ) → (xs : List (Leg L)) × Drains OneLegBack s xs × (count ≡ length xs) → (w : List (Leg L)) → Traces s.labels.now s.label w → count ≡ length w
+counted s count (xs, (u, ran), e) w t = e ∙ legs_counted s u xs ran w t
 
 -- a walk of which the legs from number `end` on are written, and those before are to come
 pub record Halfway {L : Type 0} (s : LegsBack L) (w : List (Leg L)) (end : ℕ) (old now : List (Leg L)) : Type 0 where
@@ -64,3 +69,5 @@ all_written s w end old now none h =
 -- where no leg is left, all are written
 pub no_leg_left : {L : Type 0} (s t : LegsBack L) (w : List (Leg L)) (end : ℕ) (old now : List (Leg L)) → OneLegBack s None t → Halfway s w end old now → now ≡ w ++ drop (length w) old
 no_leg_left s t w end old now (_, none) h = all_written s w end old now (sym h.left ∙ ap length (none h.ahead h.traces)) h
+
+pub ruleset written_back = (none_written, all_written, no_leg_left)

@@ -26,3 +26,5 @@ all_written all old now left i none w =
     let whole : take i now ≡ all = sym (append-nil (take i now)) ∙ ap (λ t. take i now ++ t) (sym none) ∙ w.first in
     let count : length all ≡ i = sym (ap length whole) ∙ length-take-le i now (omega (arith, w.fits)) in
     sym (take-append-drop i now) ∙ ap (λ t. t ++ drop i now) whole ∙ ap (λ t. all ++ t) (w.later ∙ ap (λ n. drop n old) (sym count))
+
+pub ruleset written = (nothing_written, one_more_written, all_written)

@@ -97,6 +97,7 @@ fn count_rows(labels: &[Label<Profile>], goal: u32) -> u32
 }
 
 // Writes the rows of labels.
+#[tactic(auto, using(crate::proofs::WrittenRows::written))]
 fn write_rows(labels: &[Label<Profile>], goal: u32, rows: &mut [Row])
     requires { (length labels.now ≤ 65535) × (length (chart goal labels.now) ≤ length rows.old) }
     ensures { rows.new ≡ chart goal labels.now ++ drop (length (chart goal labels.now)) rows.old }

@@ -31,6 +31,7 @@ impl<L: Copy> Iterator for LegsBack<'_, L> {
 
     ghost remaining = { λ s. at_most s.label };
 
+    #[tactic(auto, using(crate::proofs::WalkingBack::one_leg_back))]
     fn next(&mut self) -> Option<Leg<L>> {
         let here = self.labels[self.label as usize];
         if here.before >= self.label {
@@ -56,6 +57,7 @@ fn count_roads<L: Copy>(labels: &[Label<L>], label: u32) -> u32
 }
 
 // Writes a label's walk of `count` roads, the last road first.
+#[tactic(auto, using(crate::proofs::WalkingBack::written_back))]
 fn write_walk<L: Copy>(labels: &[Label<L>], label: u32, count: u32, walk: &mut [Leg<L>])
     requires { (label < length labels.now) × (count ≤ length walk.old) }
     ensures later_untouched { drop count walk.new ≡ drop count walk.old }
