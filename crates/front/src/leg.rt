@@ -1,7 +1,7 @@
 //! One road of a walk, as a trace tells it.
 
 /// The junction left, the place driven, and the time and load of the arrival.
-#[derive(Clone, Copy)]
+#[derive(Clone, Copy, PartialEq, Eq, Debug)]
 pub struct Leg<L> {
     /// The junction left.
     pub junction: u32,
