@@ -1,12 +1,32 @@
 //! Searches with charges.
 use crate::examples::*;
+use front::arrival::Arrival;
+use front::leg::Leg;
 use loads::charge::{Charge, ChargeKind};
-use search::Search;
+use promises::standing::{Progress, Standing};
+use promises::trip::Trip;
 use std::alloc::Global;
 use std::process::Abort;
 use std::test::Fail;
 
-type Answer = (&'static str, u32, u32, u32);
+const FULL: Charge = Charge { level: 1_000 };
+
+fn trip(start: u32, load: Charge, goal: u32, deadline: u32) -> Trip<Charge> {
+    Trip {
+        start,
+        load,
+        goal,
+        deadline,
+    }
+}
+
+// A new search of the worked map with so many labels.
+fn on_worked_map(heap: Global, labels: usize) -> Result<SearchOnMap<ChargeKind>, Fail> {
+    let kind = ChargeKind::new(1_000)?;
+    let waiting = labels.saturating_mul(12);
+    let map = worked_map()?;
+    Ok(SearchOnMap::new(heap, map, kind, Charge { level: 77 }, labels, waiting)?)
+}
 
 // What so many labels and this budget answer on the worked map, one advance after the other.
 fn advances(
@@ -15,225 +35,160 @@ fn advances(
     labels: usize,
     budget: u32,
     deadline: u32,
-    expected: &[Answer],
+    expected: &[Progress],
 ) -> Result<(), Fail> {
-    let map = worked_map();
-    let Ok(kind) = ChargeKind::new(1_000) else {
-        return Err(Fail::new("capacity"));
-    };
-    let mut table = vec![in heap; charge_label(); labels]?;
-    let mut waiting = vec![in heap; charge_candidate(); labels.saturating_mul(12)]?;
-    let mut search = Search::new();
-    let first = search.begin(
-        &map,
-        &kind,
-        &mut table,
-        &mut waiting,
-        0,
-        Charge { level: 1_000 },
-        3,
-        deadline,
+    let mut search = on_worked_map(heap, labels)?;
+    assert_eq!(rt;
+        search.begin(trip(0, FULL, 3, deadline)),
+        Ok(Standing::Paused)
     );
-    assert_eq!(rt; begun(first), ("paused", 0));
-    for answer in expected {
-        assert_eq!(rt;
-            advanced(search.advance(&map, &kind, &mut table, &mut waiting, budget)),
-            *answer
-        );
+    for progress in expected {
+        assert_eq!(rt; search.advance(budget), Ok(*progress));
     }
     Ok(())
 }
 
 #[test]
 fn five_labels_end(rt: HostRuntime) -> Result<(), Fail> {
-    let heap = rt.alloc();
-    advances(
-        &rt,
-        heap,
-        5,
-        100,
-        999,
-        &[
-            ("arrived", 3, 3, 4),
-            ("arrived", 4, 1, 5),
-            ("ended", 0, 0, 5),
-            ("ended", 0, 0, 5),
-        ],
-    )?;
-    advances(
-        &rt,
-        heap,
-        6,
-        100,
-        999,
-        &[
-            ("arrived", 3, 3, 4),
-            ("arrived", 4, 1, 5),
-            ("ended", 0, 0, 5),
-        ],
-    )?;
-    advances(
-        &rt,
-        heap,
-        5,
-        1,
-        999,
-        &[
-            ("paused", 0, 1, 2),
-            ("paused", 0, 1, 3),
-            ("arrived", 3, 1, 4),
-            ("arrived", 4, 1, 5),
-            ("ended", 0, 0, 5),
-        ],
-    )?;
-    advances(
-        &rt,
-        heap,
-        5,
-        2,
-        999,
-        &[
-            ("paused", 0, 2, 3),
-            ("arrived", 3, 1, 4),
-            ("arrived", 4, 1, 5),
-            ("ended", 0, 0, 5),
-        ],
-    )
+    let answers = [
+        progress(Standing::Arrived(3), 3, 4),
+        progress(Standing::Arrived(4), 1, 5),
+        progress(Standing::Ended, 0, 5),
+        progress(Standing::Ended, 0, 5),
+    ];
+    advances(&rt, rt.alloc(), 5, 100, 999, &answers)
+}
+
+#[test]
+fn six_labels_end(rt: HostRuntime) -> Result<(), Fail> {
+    let answers = [
+        progress(Standing::Arrived(3), 3, 4),
+        progress(Standing::Arrived(4), 1, 5),
+        progress(Standing::Ended, 0, 5),
+    ];
+    advances(&rt, rt.alloc(), 6, 100, 999, &answers)
+}
+
+#[test]
+fn small_budgets_pause(rt: HostRuntime) -> Result<(), Fail> {
+    let one_by_one = [
+        progress(Standing::Paused, 1, 2),
+        progress(Standing::Paused, 1, 3),
+        progress(Standing::Arrived(3), 1, 4),
+        progress(Standing::Arrived(4), 1, 5),
+        progress(Standing::Ended, 0, 5),
+    ];
+    advances(&rt, rt.alloc(), 5, 1, 999, &one_by_one)?;
+    let two_by_two = [
+        progress(Standing::Paused, 2, 3),
+        progress(Standing::Arrived(3), 1, 4),
+        progress(Standing::Arrived(4), 1, 5),
+        progress(Standing::Ended, 0, 5),
+    ];
+    advances(&rt, rt.alloc(), 5, 2, 999, &two_by_two)
 }
 
 #[test]
 fn four_labels_are_full_after_the_first_arrival(rt: HostRuntime) -> Result<(), Fail> {
     let heap = rt.alloc();
-    advances(
-        &rt,
-        heap,
-        4,
-        100,
-        999,
-        &[("arrived", 3, 3, 4), ("full", 0, 0, 4), ("full", 0, 0, 4)],
-    )?;
-    advances(&rt, heap, 3, 100, 999, &[("full", 0, 2, 3)])?;
-    advances(&rt, heap, 1, 1, 999, &[("full", 0, 0, 1)])
+    let full = progress(Standing::Full, 0, 4);
+    let arrived = progress(Standing::Arrived(3), 3, 4);
+    advances(&rt, heap, 4, 100, 999, &[arrived, full, full])?;
+    advances(&rt, heap, 3, 100, 999, &[progress(Standing::Full, 2, 3)])?;
+    advances(&rt, heap, 1, 1, 999, &[progress(Standing::Full, 0, 1)])
 }
 
 #[test]
 fn a_deadline_may_be_met_exactly(rt: HostRuntime) -> Result<(), Fail> {
     let heap = rt.alloc();
-    advances(
-        &rt,
-        heap,
-        5,
-        100,
-        70,
-        &[("arrived", 3, 3, 4), ("ended", 0, 0, 4)],
-    )?;
-    advances(&rt, heap, 5, 100, 69, &[("ended", 0, 2, 3)])
+    let arrived = progress(Standing::Arrived(3), 3, 4);
+    let ended = progress(Standing::Ended, 0, 4);
+    advances(&rt, heap, 5, 100, 70, &[arrived, ended])?;
+    advances(&rt, heap, 5, 100, 69, &[progress(Standing::Ended, 2, 3)])
+}
+
+fn arrival(time: u32, level: u32, junction: u32) -> Arrival<Charge> {
+    Arrival {
+        junction,
+        time,
+        load: Charge { level },
+    }
+}
+
+fn leg(junction: u32, place: u32, time: u32, level: u32) -> Leg<Charge> {
+    Leg {
+        junction,
+        place,
+        time,
+        load: Charge { level },
+    }
+}
+
+// A search of the worked map with five labels, after three advances.
+fn listed(heap: Global) -> Result<SearchOnMap<ChargeKind>, Fail> {
+    let mut search = on_worked_map(heap, 5)?;
+    let _ = search.begin(trip(0, FULL, 3, 999));
+    for _ in 0..3 {
+        let _ = search.advance(100);
+    }
+    Ok(search)
 }
 
 #[test]
-fn labels_are_the_front_and_trace_their_walks(rt: HostRuntime) -> Result<(), Fail> {
-    let heap = rt.alloc();
-    let map = worked_map();
-    let Ok(kind) = ChargeKind::new(1_000) else {
-        return Err(Fail::new("capacity"));
-    };
-    let mut table = vec![in heap; charge_label(); 5]?;
-    let mut waiting = vec![in heap; charge_candidate(); 60]?;
-    let mut walk = vec![in heap; charge_leg(); 3]?;
-    let mut search = Search::new();
-    let _ = search.begin(
-        &map,
-        &kind,
-        &mut table,
-        &mut waiting,
-        0,
-        Charge { level: 1_000 },
-        3,
-        999,
-    );
-    for _ in 0..3 {
-        let _ = search.advance(&map, &kind, &mut table, &mut waiting, 100);
-    }
+fn labels_are_the_front(rt: HostRuntime) -> Result<(), Fail> {
+    let search = listed(rt.alloc())?;
     let front = [
-        (0, 1_000, 0),
-        (40, 300, 2),
-        (60, 700, 1),
-        (70, 50, 3),
-        (110, 300, 3),
+        arrival(0, 1_000, 0),
+        arrival(40, 300, 2),
+        arrival(60, 700, 1),
+        arrival(70, 50, 3),
+        arrival(110, 300, 3),
     ];
-    for (label, arrival) in table.iter().zip(front.iter()) {
-        assert_eq!(rt; told(label), *arrival);
+    for (label, arrival) in search.labels.iter().zip(front.iter()) {
+        assert_eq!(rt; label.arrival, *arrival);
     }
-    assert_eq!(rt; counted(search.trace(&table, 3, &mut walk)), ("count", 2));
-    let legs = [(0, 1, 40, 300), (2, 0, 70, 50), (77, 77, 77, 77)];
-    for (leg, expected) in walk.iter().zip(legs.iter()) {
-        assert_eq!(rt; leg_told(leg), *expected);
-    }
-    assert_eq!(rt; counted(search.trace(&table, 0, &mut walk)), ("count", 0));
+    Ok(())
+}
+
+#[test]
+fn labels_trace_their_walks(rt: HostRuntime) -> Result<(), Fail> {
+    let heap = rt.alloc();
+    let on_map = listed(heap)?;
+    let mut walk = vec![in heap; leg(77, 77, 77, 77); 3]?;
+    assert_eq!(rt; on_map.search.trace(&on_map.labels, 3, &mut walk), Ok(2));
+    let legs = [leg(0, 1, 40, 300), leg(2, 0, 70, 50), leg(77, 77, 77, 77)];
+    assert_eq!(rt; walk.as_slice(), legs.as_slice());
+    assert_eq!(rt; on_map.search.trace(&on_map.labels, 0, &mut walk), Ok(0));
     Ok(())
 }
 
 #[test]
 fn a_gaining_loop_is_driven_until_the_charge_suffices(rt: HostRuntime) -> Result<(), Fail> {
-    let heap = rt.alloc();
-    let map = map_with_a_gaining_loop();
-    let Ok(kind) = ChargeKind::new(1_000) else {
-        return Err(Fail::new("capacity"));
-    };
-    let mut table = vec![in heap; charge_label(); 20]?;
-    let mut waiting = vec![in heap; charge_candidate(); 240]?;
-    let mut search = Search::new();
-    let _ = search.begin(
-        &map,
-        &kind,
-        &mut table,
-        &mut waiting,
-        0,
-        Charge { level: 100 },
-        1,
-        999,
-    );
+    let kind = ChargeKind::new(1_000)?;
+    let map = map_with_a_gaining_loop()?;
+    let mut search = SearchOnMap::new(rt.alloc(), map, kind, Charge { level: 77 }, 20, 240)?;
+    let _ = search.begin(trip(0, Charge { level: 100 }, 1, 999));
     assert_eq!(rt;
-        advanced(search.advance(&map, &kind, &mut table, &mut waiting, 100)),
-        ("arrived", 5, 5, 6)
+        search.advance(100),
+        Ok(progress(Standing::Arrived(5), 5, 6))
     );
-    for label in table.iter().skip(5).take(1) {
-        assert_eq!(rt; told(label), (20, 50, 1));
+    for label in search.labels.iter().skip(5).take(1) {
+        assert_eq!(rt; label.arrival, arrival(20, 50, 1));
     }
     Ok(())
 }
 
 #[test]
 fn a_used_search_begins_afresh(rt: HostRuntime) -> Result<(), Fail> {
-    let heap = rt.alloc();
-    let map = worked_map();
-    let Ok(kind) = ChargeKind::new(1_000) else {
-        return Err(Fail::new("capacity"));
-    };
-    let mut table = vec![in heap; charge_label(); 5]?;
-    let mut waiting = vec![in heap; charge_candidate(); 60]?;
-    let mut search = Search::new();
-    let full = Charge { level: 1_000 };
+    let mut search = on_worked_map(rt.alloc(), 5)?;
+    assert_eq!(rt; search.begin(trip(0, FULL, 3, 999)), Ok(Standing::Paused));
+    let _ = search.advance(2);
+    assert_eq!(rt; search.begin(trip(2, FULL, 2, 0)), Ok(Standing::Arrived(0)));
+    assert_eq!(rt; search.advance(100), Ok(progress(Standing::Ended, 0, 1)));
+    assert_eq!(rt; search.begin(trip(2, FULL, 3, 999)), Ok(Standing::Paused));
     assert_eq!(rt;
-        begun(search.begin(&map, &kind, &mut table, &mut waiting, 0, full, 3, 999)),
-        ("paused", 0)
-    );
-    let _ = search.advance(&map, &kind, &mut table, &mut waiting, 2);
-    assert_eq!(rt;
-        begun(search.begin(&map, &kind, &mut table, &mut waiting, 2, full, 2, 0)),
-        ("arrived", 0)
-    );
-    assert_eq!(rt;
-        advanced(search.advance(&map, &kind, &mut table, &mut waiting, 100)),
-        ("ended", 0, 0, 1)
-    );
-    assert_eq!(rt;
-        begun(search.begin(&map, &kind, &mut table, &mut waiting, 2, full, 3, 999)),
-        ("paused", 0)
-    );
-    assert_eq!(rt;
-        advanced(search.advance(&map, &kind, &mut table, &mut waiting, 100)),
-        ("arrived", 2, 2, 3)
+        search.advance(100),
+        Ok(progress(Standing::Arrived(2), 2, 3))
     );
     Ok(())
 }

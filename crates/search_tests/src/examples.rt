@@ -1,13 +1,14 @@
-//! The small maps, and what calls answer in a form that compares.
+//! The small maps, and searches on them with the tables that they are lent.
 use front::arrival::Arrival;
 use front::label::Label;
-use front::leg::Leg;
-use loads::charge::Charge;
-use loads::profile::Profile;
-use maps::table::TableMap;
+use loads::Kind;
+use maps::table::{TableMap, Tables};
 use promises::candidate::Candidate;
 use promises::standing::{Progress, Standing};
+use promises::trip::Trip;
 use refusals::refusal::Refusal;
+use search::Search;
+use std::alloc::{AllocError, Global};
 
 // 0 to 1: 60 s, 300 Wh; 0 to 2: 40 s, 700 Wh; 1 to 3: 50 s, 400 Wh; 2 to 3: 30 s, 250 Wh; 2 to 1: 20 s, -200 Wh
 const COUNTS: [u32; 4] = [2, 1, 2, 0];
@@ -27,10 +28,13 @@ const DRAWS: [i32; 48] = [
     0, 0, 0, 0, 0, 0, 0, 0, 0, 0, 0, 0, 0, 0, 0, 0, 0, 0, 0, 0,
 ];
 
-pub fn worked_map() -> TableMap<'static> {
-    let mut map = TableMap::empty();
-    let _ = map.load(&COUNTS, &HEADS, &TIMES, &DRAWS);
-    map
+pub fn worked_map() -> Result<TableMap<'static>, Refusal> {
+    TableMap::new(Tables {
+        counts: &COUNTS,
+        heads: &HEADS,
+        times: &TIMES,
+        draws: &DRAWS,
+    })
 }
 
 // a loop at 0: 5 s, -100 Wh; 0 to 1: 10 s, 250 Wh
@@ -48,12 +52,16 @@ const LOOP_DRAWS: [i32; 24] = [
     -100, 250, 0, 0, 0, 0, 0, 0, 0, 0, 0, 0, 0, 0, 0, 0, 0, 0, 0, 0, 0, 0, 0, 0,
 ];
 
-pub fn map_with_a_gaining_loop() -> TableMap<'static> {
-    let mut map = TableMap::empty();
-    let _ = map.load(&LOOP_COUNTS, &LOOP_HEADS, &LOOP_TIMES, &LOOP_DRAWS);
-    map
+pub fn map_with_a_gaining_loop() -> Result<TableMap<'static>, Refusal> {
+    TableMap::new(Tables {
+        counts: &LOOP_COUNTS,
+        heads: &LOOP_HEADS,
+        times: &LOOP_TIMES,
+        draws: &LOOP_DRAWS,
+    })
 }
 
+/// A label that no search writes.
 pub fn label_of<L>(load: L) -> Label<L> {
     Label {
         arrival: Arrival {
@@ -73,81 +81,60 @@ pub fn candidate_of<L>(load: L) -> Candidate<L> {
     }
 }
 
-pub fn charge_label() -> Label<Charge> {
-    label_of(Charge { level: 77 })
+/// A search on a map, and the tables that it is lent.
+#[derive(Drop)]
+pub struct SearchOnMap<K: Kind + Drop> {
+    pub map: TableMap<'static>,
+    pub kind: K,
+    pub labels: Vec<Label<K::Load>>,
+    pub waiting: Vec<Candidate<K::Load>>,
+    pub search: Search,
 }
 
-pub fn charge_candidate() -> Candidate<Charge> {
-    candidate_of(Charge { level: 77 })
-}
+impl<K: Kind + Drop> SearchOnMap<K> {
+    /// A new search with tables of these lengths, filled with records of this load.
+    pub fn new(
+        heap: Global,
+        map: TableMap<'static>,
+        kind: K,
+        load: K::Load,
+        labels: usize,
+        waiting: usize,
+    ) -> Result<SearchOnMap<K>, AllocError> {
+        Ok(SearchOnMap {
+            map,
+            kind,
+            labels: vec![in heap; label_of(load); labels]?,
+            waiting: vec![in heap; candidate_of(load); waiting]?,
+            search: Search::new(),
+        })
+    }
 
-pub fn profile_label() -> Label<Profile> {
-    label_of(Profile {
-        need: 77,
-        low: 77,
-        high: 77,
-    })
-}
+    pub fn begin(&mut self, trip: Trip<K::Load>) -> Result<Standing, Refusal> {
+        self.search.begin(
+            &self.map,
+            &self.kind,
+            trip,
+            &mut self.labels,
+            &mut self.waiting,
+        )
+    }
 
-pub fn profile_candidate() -> Candidate<Profile> {
-    candidate_of(Profile {
-        need: 77,
-        low: 77,
-        high: 77,
-    })
-}
-
-pub fn charge_leg() -> Leg<Charge> {
-    Leg {
-        junction: 77,
-        place: 77,
-        time: 77,
-        load: Charge { level: 77 },
+    pub fn advance(&mut self, budget: u32) -> Result<Progress, Refusal> {
+        self.search.advance(
+            &self.map,
+            &self.kind,
+            &mut self.labels,
+            &mut self.waiting,
+            budget,
+        )
     }
 }
 
-pub fn stands(standing: Standing) -> (&'static str, u32) {
-    match standing {
-        Standing::Paused => ("paused", 0),
-        Standing::Arrived(n) => ("arrived", n),
-        Standing::Ended => ("ended", 0),
-        Standing::Full => ("full", 0),
+pub fn progress(standing: Standing, listed_now: u32, listed_in_all: u32) -> Progress {
+    Progress {
+        standing,
+        listed_now,
+        listed_in_all,
     }
-}
-
-pub fn begun(answer: Result<Standing, Refusal>) -> (&'static str, u32) {
-    match answer {
-        Ok(standing) => stands(standing),
-        Err(refusal) => ("refused", refusal.number() as u32),
-    }
-}
-
-pub fn advanced(answer: Result<Progress, Refusal>) -> (&'static str, u32, u32, u32) {
-    match answer {
-        Ok(progress) => {
-            let (word, number) = stands(progress.standing);
-            (word, number, progress.listed_now, progress.listed_in_all)
-        }
-        Err(refusal) => ("refused", refusal.number() as u32, 0, 0),
-    }
-}
-
-pub fn counted(answer: Result<u32, Refusal>) -> (&'static str, u32) {
-    match answer {
-        Ok(count) => ("count", count),
-        Err(Refusal::BufferTooShort(needed)) => ("needs", needed),
-        Err(refusal) => ("refused", refusal.number() as u32),
-    }
-}
-
-pub fn told(label: &Label<Charge>) -> (u32, u32, u32) {
-    (
-        label.arrival.time,
-        label.arrival.load.level,
-        label.arrival.junction,
-    )
-}
-
-pub fn leg_told(leg: &Leg<Charge>) -> (u32, u32, u32, u32) {
-    (leg.junction, leg.place, leg.time, leg.load.level)
 }

@@ -1,117 +1,92 @@
 //! Searches with profiles, and their charts.
 use crate::examples::*;
 use charts::row::Row;
-use loads::profile::ProfileKind;
-use search::Search;
-use std::process::Abort;
+use loads::profile::{Profile, ProfileKind};
+use promises::standing::{Progress, Standing};
+use promises::trip::Trip;
+use refusals::refusal::Refusal;
+use std::alloc::Global;
 use std::test::Fail;
 
-fn row_told(row: &Row) -> (u32, u32, u32) {
-    (row.need, row.seconds, row.label)
+const UNWRITTEN: Profile = Profile {
+    need: 77,
+    low: 77,
+    high: 77,
+};
+
+fn row(need: u32, seconds: u32, label: u32) -> Row {
+    Row {
+        need,
+        seconds,
+        label,
+    }
 }
 
-fn same_rows(rt: &impl Abort, rows: &[Row], expected: &[(u32, u32, u32)]) {
-    for (row, told) in rows.iter().zip(expected.iter()) {
-        assert_eq!(rt; row_told(row), *told);
-    }
+// A new search of the worked map.
+fn on_worked_map(heap: Global) -> Result<SearchOnMap<ProfileKind>, Fail> {
+    let kind = ProfileKind::new(1_000)?;
+    let map = worked_map()?;
+    Ok(SearchOnMap::new(heap, map, kind, UNWRITTEN, 20, 240)?)
+}
+
+// Begins a search from the kind's plain profile.
+fn begin(search: &mut SearchOnMap<ProfileKind>) {
+    let load = search.kind.plain();
+    let _ = search.begin(Trip {
+        start: 0,
+        load,
+        goal: 3,
+        deadline: 999,
+    });
 }
 
 #[test]
 fn a_chart_tells_the_least_times_of_all_charges(rt: HostRuntime) -> Result<(), Fail> {
     let heap = rt.alloc();
-    let map = worked_map();
-    let Ok(kind) = ProfileKind::new(1_000) else {
-        return Err(Fail::new("capacity"));
-    };
-    let mut table = vec![in heap; profile_label(); 20]?;
-    let mut waiting = vec![in heap; profile_candidate(); 240]?;
-    let mut rows = vec![in heap; Row {
-        need: 77,
-        seconds: 77,
-        label: 77
-    }; 3]?;
-    let mut search = Search::new();
-    let _ = search.begin(
-        &map,
-        &kind,
-        &mut table,
-        &mut waiting,
-        0,
-        kind.plain(),
-        3,
-        999,
+    let mut on_map = on_worked_map(heap)?;
+    let mut rows = vec![in heap; row(77, 77, 77); 3]?;
+    begin(&mut on_map);
+    assert_eq!(rt;
+        on_map.search.chart(&on_map.kind, &on_map.labels, &mut rows),
+        Ok(0)
     );
     assert_eq!(rt;
-        counted(search.chart(&kind, &table, &mut rows)),
-        ("count", 0)
+        on_map.advance(100),
+        Ok(progress(Standing::Arrived(3), 3, 4))
     );
     assert_eq!(rt;
-        advanced(search.advance(&map, &kind, &mut table, &mut waiting, 100)),
-        ("arrived", 3, 3, 4)
+        on_map.advance(100),
+        Ok(progress(Standing::Arrived(4), 1, 5))
     );
+    assert_eq!(rt; on_map.advance(100), Ok(progress(Standing::Ended, 0, 5)));
     assert_eq!(rt;
-        advanced(search.advance(&map, &kind, &mut table, &mut waiting, 100)),
-        ("arrived", 4, 1, 5)
+        on_map.search.chart(&on_map.kind, &on_map.labels, &mut rows),
+        Ok(2)
     );
-    assert_eq!(rt;
-        advanced(search.advance(&map, &kind, &mut table, &mut waiting, 100)),
-        ("ended", 0, 0, 5)
-    );
-    assert_eq!(rt;
-        counted(search.chart(&kind, &table, &mut rows)),
-        ("count", 2)
-    );
-    same_rows(&rt, &rows, &[(950, 70, 3), (700, 110, 4), (77, 77, 77)]);
+    let expected = [row(950, 70, 3), row(700, 110, 4), row(77, 77, 77)];
+    assert_eq!(rt; rows.as_slice(), expected.as_slice());
     Ok(())
 }
 
 #[test]
 fn a_chart_refuses_other_labels_kinds_and_short_buffers(rt: HostRuntime) -> Result<(), Fail> {
     let heap = rt.alloc();
-    let map = worked_map();
-    let Ok(kind) = ProfileKind::new(1_000) else {
-        return Err(Fail::new("capacity"));
-    };
-    let Ok(smaller) = ProfileKind::new(999) else {
-        return Err(Fail::new("capacity"));
-    };
-    let mut table = vec![in heap; profile_label(); 20]?;
-    let shorter = vec![in heap; profile_label(); 19]?;
-    let mut waiting = vec![in heap; profile_candidate(); 240]?;
-    let mut rows = vec![in heap; Row {
-        need: 77,
-        seconds: 77,
-        label: 77
-    }; 1]?;
-    let mut search = Search::new();
-    assert_eq!(rt;
-        counted(search.chart(&kind, &table, &mut rows)),
-        ("refused", 31)
-    );
-    let _ = search.begin(
-        &map,
-        &kind,
-        &mut table,
-        &mut waiting,
-        0,
-        kind.plain(),
-        3,
-        999,
-    );
-    let _ = search.advance(&map, &kind, &mut table, &mut waiting, 100);
-    let _ = search.advance(&map, &kind, &mut table, &mut waiting, 100);
-    assert_eq!(rt;
-        counted(search.chart(&kind, &shorter, &mut rows)),
-        ("refused", 32)
-    );
-    assert_eq!(rt;
-        counted(search.chart(&smaller, &table, &mut rows)),
-        ("refused", 37)
-    );
-    assert_eq!(rt;
-        counted(search.chart(&kind, &table, &mut rows)),
-        ("needs", 2)
-    );
-    same_rows(&rt, &rows, &[(77, 77, 77)]);
+    let mut on_map = on_worked_map(heap)?;
+    let smaller = ProfileKind::new(999)?;
+    let shorter = vec![in heap; label_of(UNWRITTEN); 19]?;
+    let mut rows = vec![in heap; row(77, 77, 77); 1]?;
+    let early = on_map.search.chart(&on_map.kind, &on_map.labels, &mut rows);
+    assert_eq!(rt; early.map_err(Refusal::number), Err(31));
+    begin(&mut on_map);
+    let _ = on_map.advance(100);
+    let _ = on_map.advance(100);
+    let search = &on_map.search;
+    let other_labels = search.chart(&on_map.kind, &shorter, &mut rows);
+    assert_eq!(rt; other_labels.map_err(Refusal::number), Err(32));
+    let other_kind = search.chart(&smaller, &on_map.labels, &mut rows);
+    assert_eq!(rt; other_kind.map_err(Refusal::number), Err(37));
+    let short = search.chart(&on_map.kind, &on_map.labels, &mut rows);
+    assert_eq!(rt; short, Err(Refusal::BufferTooShort(2)));
+    assert_eq!(rt; rows.as_slice(), [row(77, 77, 77)].as_slice());
     Ok(())
 }
