@@ -1,32 +1,13 @@
 //! Searches with charges.
 use crate::examples::*;
 use front::arrival::Arrival;
-use front::leg::Leg;
 use loads::charge::{Charge, ChargeKind};
 use promises::standing::{Progress, Standing};
-use promises::trip::Trip;
 use std::alloc::Global;
 use std::process::Abort;
 use std::test::Fail;
 
 const FULL: Charge = Charge { level: 1_000 };
-
-fn trip(start: u32, load: Charge, goal: u32, deadline: u32) -> Trip<Charge> {
-    Trip {
-        start,
-        load,
-        goal,
-        deadline,
-    }
-}
-
-// A new search of the worked map with so many labels.
-fn on_worked_map(heap: Global, labels: usize) -> Result<SearchOnMap<ChargeKind>, Fail> {
-    let kind = ChargeKind::new(1_000)?;
-    let waiting = labels.saturating_mul(12);
-    let map = worked_map()?;
-    Ok(SearchOnMap::new(heap, map, kind, Charge { level: 77 }, labels, waiting)?)
-}
 
 // What so many labels and this budget answer on the worked map, one advance after the other.
 fn advances(
@@ -37,7 +18,7 @@ fn advances(
     deadline: u32,
     expected: &[Progress],
 ) -> Result<(), Fail> {
-    let mut search = on_worked_map(heap, labels)?;
+    let mut search = charges_on_worked_map(heap, labels, labels.saturating_mul(12))?;
     assert_eq!(rt;
         search.begin(trip(0, FULL, 3, deadline)),
         Ok(Standing::Paused)
@@ -111,22 +92,13 @@ fn arrival(time: u32, level: u32, junction: u32) -> Arrival<Charge> {
     Arrival {
         junction,
         time,
-        load: Charge { level },
-    }
-}
-
-fn leg(junction: u32, place: u32, time: u32, level: u32) -> Leg<Charge> {
-    Leg {
-        junction,
-        place,
-        time,
-        load: Charge { level },
+        load: charge(level),
     }
 }
 
 // A search of the worked map with five labels, after three advances.
 fn listed(heap: Global) -> Result<SearchOnMap<ChargeKind>, Fail> {
-    let mut search = on_worked_map(heap, 5)?;
+    let mut search = charges_on_worked_map(heap, 5, 60)?;
     let _ = search.begin(trip(0, FULL, 3, 999));
     for _ in 0..3 {
         let _ = search.advance(100);
@@ -166,8 +138,8 @@ fn labels_trace_their_walks(rt: HostRuntime) -> Result<(), Fail> {
 fn a_gaining_loop_is_driven_until_the_charge_suffices(rt: HostRuntime) -> Result<(), Fail> {
     let kind = ChargeKind::new(1_000)?;
     let map = map_with_a_gaining_loop()?;
-    let mut search = SearchOnMap::new(rt.alloc(), map, kind, Charge { level: 77 }, 20, 240)?;
-    let _ = search.begin(trip(0, Charge { level: 100 }, 1, 999));
+    let mut search = SearchOnMap::new(rt.alloc(), map, kind, charge(77), 20, 240)?;
+    let _ = search.begin(trip(0, charge(100), 1, 999));
     assert_eq!(rt;
         search.advance(100),
         Ok(progress(Standing::Arrived(5), 5, 6))
@@ -180,7 +152,7 @@ fn a_gaining_loop_is_driven_until_the_charge_suffices(rt: HostRuntime) -> Result
 
 #[test]
 fn a_used_search_begins_afresh(rt: HostRuntime) -> Result<(), Fail> {
-    let mut search = on_worked_map(rt.alloc(), 5)?;
+    let mut search = charges_on_worked_map(rt.alloc(), 5, 60)?;
     assert_eq!(rt; search.begin(trip(0, FULL, 3, 999)), Ok(Standing::Paused));
     let _ = search.advance(2);
     assert_eq!(rt; search.begin(trip(2, FULL, 2, 0)), Ok(Standing::Arrived(0)));

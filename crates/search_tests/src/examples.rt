@@ -1,7 +1,9 @@
 //! The small maps, and searches on them with the tables that they are lent.
 use front::arrival::Arrival;
 use front::label::Label;
+use front::leg::Leg;
 use loads::Kind;
+use loads::charge::{Charge, ChargeKind};
 use maps::table::{TableMap, Tables};
 use promises::candidate::Candidate;
 use promises::standing::{Progress, Standing};
@@ -9,6 +11,7 @@ use promises::trip::Trip;
 use refusals::refusal::Refusal;
 use search::Search;
 use std::alloc::{AllocError, Global};
+use std::test::Fail;
 
 // 0 to 1: 60 s, 300 Wh; 0 to 2: 40 s, 700 Wh; 1 to 3: 50 s, 400 Wh; 2 to 3: 30 s, 250 Wh; 2 to 1: 20 s, -200 Wh
 const COUNTS: [u32; 4] = [2, 1, 2, 0];
@@ -137,4 +140,37 @@ pub fn progress(standing: Standing, listed_now: u32, listed_in_all: u32) -> Prog
         listed_now,
         listed_in_all,
     }
+}
+
+pub fn trip<L>(start: u32, load: L, goal: u32, deadline: u32) -> Trip<L> {
+    Trip {
+        start,
+        load,
+        goal,
+        deadline,
+    }
+}
+
+pub fn charge(level: u32) -> Charge {
+    Charge { level }
+}
+
+pub fn leg(junction: u32, place: u32, time: u32, level: u32) -> Leg<Charge> {
+    Leg {
+        junction,
+        place,
+        time,
+        load: charge(level),
+    }
+}
+
+/// A new search of the worked map for charges, with tables of these lengths.
+pub fn charges_on_worked_map(
+    heap: Global,
+    labels: usize,
+    waiting: usize,
+) -> Result<SearchOnMap<ChargeKind>, Fail> {
+    let kind = ChargeKind::new(1_000)?;
+    let map = worked_map()?;
+    Ok(SearchOnMap::new(heap, map, kind, charge(77), labels, waiting)?)
 }

@@ -2,8 +2,7 @@
 use crate::examples::*;
 use charts::row::Row;
 use loads::profile::{Profile, ProfileKind};
-use promises::standing::{Progress, Standing};
-use promises::trip::Trip;
+use promises::standing::Standing;
 use refusals::refusal::Refusal;
 use std::alloc::Global;
 use std::test::Fail;
@@ -32,12 +31,7 @@ fn on_worked_map(heap: Global) -> Result<SearchOnMap<ProfileKind>, Fail> {
 // Begins a search from the kind's plain profile.
 fn begin(search: &mut SearchOnMap<ProfileKind>) {
     let load = search.kind.plain();
-    let _ = search.begin(Trip {
-        start: 0,
-        load,
-        goal: 3,
-        deadline: 999,
-    });
+    let _ = search.begin(trip(0, load, 3, 999));
 }
 
 #[test]

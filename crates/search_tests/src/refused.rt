@@ -1,6 +1,5 @@
 //! Every refusal of begin, advance and trace, in order, with everything left as it was.
 use crate::examples::*;
-use front::leg::Leg;
 use loads::charge::{Charge, ChargeKind};
 use promises::standing::Standing;
 use promises::trip::Trip;
@@ -11,28 +10,6 @@ use std::test::Fail;
 
 const MOST: u32 = u32::MAX;
 
-const UNWRITTEN: Charge = Charge { level: 77 };
-
-fn trip(start: u32, goal: u32, level: u32, deadline: u32) -> Trip<Charge> {
-    Trip {
-        start,
-        load: Charge { level },
-        goal,
-        deadline,
-    }
-}
-
-// A new search of the worked map with tables of these lengths.
-fn on_worked_map(
-    heap: Global,
-    labels: usize,
-    waiting: usize,
-) -> Result<SearchOnMap<ChargeKind>, Fail> {
-    let kind = ChargeKind::new(1_000)?;
-    let map = worked_map()?;
-    Ok(SearchOnMap::new(heap, map, kind, UNWRITTEN, labels, waiting)?)
-}
-
 // What a new search with tables of these lengths answers to a begin; none of it is written.
 fn begin(
     rt: &impl Abort,
@@ -41,10 +18,10 @@ fn begin(
     waiting: usize,
     trip: Trip<Charge>,
 ) -> Result<Result<Standing, u8>, Fail> {
-    let mut search = on_worked_map(heap, labels, waiting)?;
+    let mut search = charges_on_worked_map(heap, labels, waiting)?;
     let answer = search.begin(trip).map_err(Refusal::number);
     for label in &search.labels {
-        assert_eq!(rt; *label, label_of(UNWRITTEN));
+        assert_eq!(rt; *label, label_of(charge(77)));
     }
     assert_eq!(rt; search.advance(1).map_err(Refusal::number), Err(31));
     Ok(answer)
@@ -52,28 +29,27 @@ fn begin(
 
 #[test]
 fn begin_refuses_by_the_first_check_that_fails(rt: HostRuntime) -> Result<(), Fail> {
-    let heap = rt.alloc();
     let late = 1_000_000;
-    assert_eq!(rt; begin(&rt, heap, 0, 0, trip(4, 4, 1_001, late))?, Err(1));
-    assert_eq!(rt;
-        begin(&rt, heap, 0, 0, trip(MOST, MOST, MOST, MOST))?,
-        Err(1)
-    );
-    assert_eq!(rt; begin(&rt, heap, 0, 0, trip(3, 4, 1_001, late))?, Err(2));
-    assert_eq!(rt; begin(&rt, heap, 0, 0, trip(3, 3, 1_001, late))?, Err(3));
-    assert_eq!(rt; begin(&rt, heap, 0, 0, trip(3, 3, 1_000, late))?, Err(4));
-    assert_eq!(rt; begin(&rt, heap, 0, 0, trip(3, 3, 1_000, 999_999))?, Err(5));
-    assert_eq!(rt;
-        begin(&rt, heap, 5, 59, trip(3, 3, 1_000, 999_999))?,
-        Err(6)
-    );
+    let cases = [
+        (1, 0, 0, trip(4, charge(1_001), 4, late)),
+        (1, 0, 0, trip(MOST, charge(MOST), MOST, MOST)),
+        (2, 0, 0, trip(3, charge(1_001), 4, late)),
+        (3, 0, 0, trip(3, charge(1_001), 3, late)),
+        (4, 0, 0, trip(3, charge(1_000), 3, late)),
+        (5, 0, 0, trip(3, charge(1_000), 3, 999_999)),
+        (6, 5, 59, trip(3, charge(1_000), 3, 999_999)),
+    ];
+    for (number, labels, waiting, trip) in cases {
+        let answer = begin(&rt, rt.alloc(), labels, waiting, trip)?;
+        assert_eq!(rt; answer, Err(number));
+    }
     Ok(())
 }
 
 // A search of the worked map that has begun, with five labels.
 fn begun(heap: Global) -> Result<SearchOnMap<ChargeKind>, Fail> {
-    let mut search = on_worked_map(heap, 5, 60)?;
-    let _ = search.begin(trip(0, 3, 1_000, 999));
+    let mut search = charges_on_worked_map(heap, 5, 60)?;
+    let _ = search.begin(trip(0, charge(1_000), 3, 999));
     Ok(search)
 }
 
@@ -88,8 +64,8 @@ fn advance_refuses_another_map_and_other_tables(rt: HostRuntime) -> Result<(), F
         mut search,
     } = begun(heap)?;
     let smaller = map_with_a_gaining_loop()?;
-    let mut longer = vec![in heap; label_of(UNWRITTEN); 6]?;
-    let mut wider = vec![in heap; candidate_of(UNWRITTEN); 61]?;
+    let mut longer = vec![in heap; label_of(charge(77)); 6]?;
+    let mut wider = vec![in heap; candidate_of(charge(77)); 61]?;
     let other_map = search.advance(&smaller, &kind, &mut labels, &mut waiting, 0);
     assert_eq!(rt; other_map.map_err(Refusal::number), Err(32));
     let other_labels = search.advance(&map, &kind, &mut longer, &mut waiting, 0);
@@ -116,15 +92,10 @@ fn advance_refuses_other_budgets(rt: HostRuntime) -> Result<(), Fail> {
 #[test]
 fn trace_refuses_other_labels_and_short_buffers(rt: HostRuntime) -> Result<(), Fail> {
     let heap = rt.alloc();
-    let unwritten = Leg {
-        junction: 77,
-        place: 77,
-        time: 77,
-        load: UNWRITTEN,
-    };
-    let longer = vec![in heap; label_of(UNWRITTEN); 6]?;
+    let unwritten = leg(77, 77, 77, 77);
+    let longer = vec![in heap; label_of(charge(77)); 6]?;
     let mut walk = vec![in heap; unwritten; 1]?;
-    let new = on_worked_map(heap, 5, 60)?;
+    let new = charges_on_worked_map(heap, 5, 60)?;
     let too_early = new.search.trace(&new.labels, 0, &mut walk);
     assert_eq!(rt; too_early.map_err(Refusal::number), Err(31));
     let mut on_map = begun(heap)?;
