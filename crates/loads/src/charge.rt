@@ -5,6 +5,7 @@ ghost use Rattle.loads.specs.Charge.{charges, shortage};
 ghost use Rattle.loads.specs.ChargeLaws.{charges_lawful};
 
 use crate::Kind;
+use crate::capacity::Capacity;
 use maps::road::Road;
 use refusals::refusal::Refusal;
 
@@ -17,8 +18,7 @@ pub struct Charge {
 /// Vans whose battery holds at most the capacity, from 1 to 100,000 watt-hours.
 #[derive(Clone, Copy)]
 pub struct ChargeKind {
-    capacity: u32,
-    ghost sized: { (1 ≤ capacity) × (capacity ≤ 100000) },
+    capacity: Capacity,
 }
 
 impl Charge {
@@ -36,24 +36,23 @@ impl Charge {
 impl ChargeKind {
     /// The kind of this capacity; refuses one that is out of range.
     pub fn new(capacity: u32) -> Result<ChargeKind, Refusal>
-        ensures accepted_exactly_from_1_to_100000 { MatchResult result (λ k. (1 ≤ capacity) × (capacity ≤ 100000) × (k.capacity ≡ capacity)) (λ e. (e ≡ CapacityOutOfRange) × ((1 ≤ capacity) × (capacity ≤ 100000) → ⊥)) }
+        ensures accepted_exactly_from_1_to_100000 { MatchResult result (λ k. (1 ≤ capacity) × (capacity ≤ 100000) × (k.capacity.watt_hours ≡ capacity)) (λ e. (e ≡ CapacityOutOfRange) × ((1 ≤ capacity) × (capacity ≤ 100000) → ⊥)) }
     {
-        if capacity == 0 || capacity > 100_000 {
-            return Err(Refusal::CapacityOutOfRange);
-        }
-        Ok(ChargeKind { capacity })
+        Ok(ChargeKind {
+            capacity: Capacity::new(capacity)?,
+        })
     }
 }
 
 impl Kind for ChargeKind {
     type Load = Charge;
 
-    ghost meaning = { λ k. charges k.capacity };
+    ghost meaning = { λ k. charges k.capacity.watt_hours };
 
-    ghost lawful = { λ k. charges_lawful k.capacity k.sized.1 };
+    ghost lawful = { λ k. charges_lawful k.capacity.watt_hours k.capacity.within.1 };
 
     fn admits(&self, load: Charge) -> bool {
-        load.level <= self.capacity
+        load.level <= self.capacity.watt_hours
     }
 
     fn as_good(&self, one: Charge, other: Charge) -> bool {
@@ -62,7 +61,7 @@ impl Kind for ChargeKind {
 
     fn rank(&self, load: Charge) -> u64 {
         if load.level <= 100_000 {
-            load.level as u64
+            u64::from(load.level)
         } else {
             0
         }
@@ -73,16 +72,13 @@ impl Kind for ChargeKind {
             return None;
         }
         let draw = road.draw.unsigned_abs();
-        if road.draw < 0 {
-            return Some(Charge {
-                level: (load.level + draw).min(self.capacity),
-            });
-        }
-        if load.level < draw {
-            return None;
-        }
+        let left = if road.draw < 0 {
+            load.level + draw
+        } else {
+            load.level.checked_sub(draw)?
+        };
         Some(Charge {
-            level: (load.level - draw).min(self.capacity),
+            level: left.min(self.capacity.watt_hours),
         })
     }
 }

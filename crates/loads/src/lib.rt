@@ -7,6 +7,7 @@ ghost use Rattle.loads.specs.Laws.{Laws};
 
 use maps::road::Road;
 
+pub mod capacity;
 pub mod charge;
 pub mod profile;
 

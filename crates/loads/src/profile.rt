@@ -5,6 +5,7 @@ ghost use Rattle.loads.specs.Profile.{AsGood, is_profile, plain, profiles, three
 ghost use Rattle.loads.specs.ProfileLaws.{profiles_lawful};
 
 use crate::Kind;
+use crate::capacity::Capacity;
 use maps::road::Road;
 use refusals::refusal::Refusal;
 
@@ -21,8 +22,7 @@ pub struct Profile {
 /// Vans whose battery holds at most the capacity, from 1 to 100,000 watt-hours, whatever they started with.
 #[derive(Clone, Copy)]
 pub struct ProfileKind {
-    capacity: u32,
-    ghost sized: { (1 ≤ capacity) × (capacity ≤ 100000) },
+    capacity: Capacity,
 }
 
 impl Profile {
@@ -32,7 +32,7 @@ impl Profile {
     {
         self.low <= self.high
             && self.high <= 100_000
-            && self.need as u64 + (self.high - self.low) as u64 <= 100_000
+            && u64::from(self.need) + u64::from(self.high - self.low) <= 100_000
     }
 
     // Whether both are loads, and this one is no worse by the three comparisons.
@@ -50,22 +50,21 @@ impl Profile {
 impl ProfileKind {
     /// The kind of this capacity; refuses one that is out of range.
     pub fn new(capacity: u32) -> Result<ProfileKind, Refusal>
-        ensures accepted_exactly_from_1_to_100000 { MatchResult result (λ k. (1 ≤ capacity) × (capacity ≤ 100000) × (k.capacity ≡ capacity)) (λ e. (e ≡ CapacityOutOfRange) × ((1 ≤ capacity) × (capacity ≤ 100000) → ⊥)) }
+        ensures accepted_exactly_from_1_to_100000 { MatchResult result (λ k. (1 ≤ capacity) × (capacity ≤ 100000) × (k.capacity.watt_hours ≡ capacity)) (λ e. (e ≡ CapacityOutOfRange) × ((1 ≤ capacity) × (capacity ≤ 100000) → ⊥)) }
     {
-        if capacity == 0 || capacity > 100_000 {
-            return Err(Refusal::CapacityOutOfRange);
-        }
-        Ok(ProfileKind { capacity })
+        Ok(ProfileKind {
+            capacity: Capacity::new(capacity)?,
+        })
     }
 
     /// The load before any road: every starting charge that the kind's battery holds.
     pub fn plain(&self) -> Profile
-        ensures { result ≡ plain self.now.capacity }
+        ensures { result ≡ plain self.now.capacity.watt_hours }
     {
         Profile {
             need: 0,
             low: 0,
-            high: self.capacity,
+            high: self.capacity.watt_hours,
         }
     }
 }
@@ -73,18 +72,18 @@ impl ProfileKind {
 impl Kind for ProfileKind {
     type Load = Profile;
 
-    ghost meaning = { λ k. profiles k.capacity };
+    ghost meaning = { λ k. profiles k.capacity.watt_hours };
 
-    ghost lawful = { λ k. profiles_lawful k.capacity k.sized.1 };
+    ghost lawful = { λ k. profiles_lawful k.capacity.watt_hours k.capacity.within.1 };
 
     fn admits(&self, load: Profile) -> bool {
         load.is_load()
-            && load.high <= self.capacity
-            && load.need + (load.high - load.low) <= self.capacity
+            && load.high <= self.capacity.watt_hours
+            && load.need + (load.high - load.low) <= self.capacity.watt_hours
     }
 
     fn as_good(&self, one: Profile, other: Profile) -> bool
-        ensures by_three_comparisons { result ≡ (profiles self.now.capacity).as_good one other }
+        ensures by_three_comparisons { result ≡ (profiles self.now.capacity.watt_hours).as_good one other }
         ensures exactly_when_both_are_loads_and_at_each_starting_charge_one_has_at_least_as_much { Decides result ((is_profile one ≡ true) × (is_profile other ≡ true) × AsGood one other) }
     {
         one.is_no_worse_than(&other)
@@ -92,7 +91,8 @@ impl Kind for ProfileKind {
 
     fn rank(&self, load: Profile) -> u64 {
         if load.is_load() {
-            ((100_000 - load.need as u64) * 100_001 + load.high as u64) * 100_001 + load.low as u64
+            ((100_000 - u64::from(load.need)) * 100_001 + u64::from(load.high)) * 100_001
+                + u64::from(load.low)
         } else {
             0
         }
@@ -103,20 +103,19 @@ impl Kind for ProfileKind {
             return None;
         }
         let draw = road.draw.unsigned_abs();
+        let most = self.capacity.watt_hours;
         if road.draw < 0 {
             return Some(Profile {
-                need: load.need,
-                low: (load.low + draw).min(self.capacity),
-                high: (load.high + draw).min(self.capacity),
+                low: (load.low + draw).min(most),
+                high: (load.high + draw).min(most),
+                ..load
             });
         }
-        if load.high < draw {
-            return None;
-        }
+        let high = load.high.checked_sub(draw)?;
         Some(Profile {
             need: load.need + draw.saturating_sub(load.low),
-            low: load.low.saturating_sub(draw).min(self.capacity),
-            high: (load.high - draw).min(self.capacity),
+            low: load.low.saturating_sub(draw).min(most),
+            high: high.min(most),
         })
     }
 }
