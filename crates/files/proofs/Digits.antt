@@ -1,4 +1,4 @@
-use Rattle.std.proofs.Common.{◌≡◌, ℕ, suc, ◌+◌, ◌-◌, ◌*◌, ◌<◌, ◌≤◌, true, false, cond, ◌&&◌, eqb, leb, List, length, get_or, drop, ap, ◌∙◌, le-leb}
+use Rattle.std.proofs.Common.{◌≡◌, ℕ, ◌+◌, ◌-◌, ◌*◌, ◌<◌, ◌≤◌, false, ◌&&◌, leb, List, length, get_or, drop, ap, ◌∙◌, le-leb}
 use Rattle.std.proofs.lemmas.List.{at_drop_more}
 use Rattle.files.specs.Values.{all_digits, numeral}
 

@@ -61,15 +61,15 @@ agree_lines room cs n t rs (p ∷ q ∷ ps) all h =
     (agree_at room (n + 1) (road_taken room cs t p) (road_listed room cs rs p) (agree_road room t rs h (road_line room cs p) (λ r e. road_in_range room cs p r all e)))
     (λ u us hs. agree_lines room cs (n + 1) u us (q ∷ ps) all hs)
 
-agree_names : (room n : ℕ) (x : Result (List RoadColumn) LineFault) (f : List RoadColumn → Result Tables FileFault) (g : List RoadColumn → Result (List RoadLine) FileFault) → ((cs : List RoadColumn) → x ≡ Ok cs → Agree room (f cs) (g cs)) → Agree room (then (at_line Roads n x) f) (then (at_line Roads n x) g)
-agree_names room n (Ok cs) f g k = k cs refl
-agree_names room n (Err e) f g k = refl
+agree_names : (room n : ℕ) (x : Result (List RoadColumn) LineFault) (ps : List (List ℕ)) (f : List RoadColumn × List (List ℕ) → Result Tables FileFault) (g : List RoadColumn × List (List ℕ) → Result (List RoadLine) FileFault) → ((cs : List RoadColumn) → x ≡ Ok cs → Agree room (f (cs, ps)) (g (cs, ps))) → Agree room (then (then (at_line Roads n x) (λ cs. Ok (cs, ps))) f) (then (then (at_line Roads n x) (λ cs. Ok (cs, ps))) g)
+agree_names room n (Ok cs) ps f g k = k cs refl
+agree_names room n (Err e) ps f g k = refl
 
 agree_file : (room : ℕ) (ps : List (List ℕ)) → Agree room (road_file room (empty_tables room) ps) (file_read Roads road_names_line (road_listed room) [] ps)
 agree_file room [] = refl
 agree_file room (p ∷ []) = refl
 agree_file room (p ∷ q ∷ ps) =
-    agree_names room 1 (road_names_line p) _ _
+    agree_names room 1 (road_names_line p) (q ∷ ps) _ _
     (λ cs e. agree_lines room cs 1 (empty_tables room) [] (q ∷ ps) (names_complete road_same road_named road_columns (pieces 32 p) cs e) (empty_filled room))
 
 maps_ok : (room : ℕ) (u : Tables) (t : RoadTables) (y : Result (List RoadLine) FileFault) → room ≤ 9600 → trimmed u ≡ tables t → Agree room (Ok u) y → MapsTheRoads (Ok t) y

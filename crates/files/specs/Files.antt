@@ -15,22 +15,15 @@ lines_read file taken n s [] = Ok s
 lines_read file taken n s (p ∷ []) = cond (length p == 0) (Ok s) (Err (placed file (n + 1) (WholeLine LineNotEnded)))
 lines_read file taken n s (p ∷ q ∷ ps) = then (at_line file (n + 1) (taken s p)) (λ u. lines_read file taken (n + 1) u (q ∷ ps))
 
--- a file without a line has wrong names
+-- the columns of a names line, and the pieces behind it; a file without a line has wrong names
+abbrev pub names_read : {C : Type 0} → FileName → (List ℕ → Result (List C) LineFault) → List (List ℕ) → Result (List C × List (List ℕ)) FileFault
+names_read file names [] = Err (placed file 1 (WholeLine WrongNames))
+names_read file names (p ∷ []) = Err (placed file 1 (WholeLine (cond (length p == 0) WrongNames LineNotEnded)))
+names_read file names (p ∷ q ∷ ps) = then (at_line file 1 (names p)) (λ cs. Ok (cs, q ∷ ps))
+
+-- the names line, and then the value lines
 abbrev pub file_read : {C S : Type 0} → FileName → (List ℕ → Result (List C) LineFault) → (List C → S → List ℕ → Result S LineFault) → S → List (List ℕ) → Result S FileFault
-file_read file names taken s [] = Err (placed file 1 (WholeLine WrongNames))
-file_read file names taken s (p ∷ []) = Err (placed file 1 (WholeLine (cond (length p == 0) WrongNames LineNotEnded)))
-file_read file names taken s (p ∷ q ∷ ps) = then (at_line file 1 (names p)) (λ cs. lines_read file (taken cs) 1 s (q ∷ ps))
-
--- a call that changes what was read so far gives what the definition gives
-abbrev pub Fills : {S E : Type 0} → Result (Unit {0}) E → S → Result S E → Type 0
-Fills (Ok _) s r = r ≡ Ok s
-Fills (Err e) s r = r ≡ Err e
-
--- the same where memory may run out
-abbrev pub FillsInMemory : {S : Type 0} → Result (Unit {0}) ReadFault → S → Result S FileFault → Type 0
-FillsInMemory (Ok _) s r = r ≡ Ok s
-FillsInMemory (Err NoMemory) s r = Unit {0}
-FillsInMemory (Err (InFile f)) s r = r ≡ Err f
+file_read file names taken s ps = then (names_read file names ps) (λ o. lines_read file (taken o.0) 1 s o.1)
 
 -- an answer, seen as what it holds, is what the definition gives, unless there is no memory
 abbrev pub ReadAs : {X S : Type 0} → (X → S) → Result X ReadFault → Result S FileFault → Type 0

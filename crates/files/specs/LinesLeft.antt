@@ -4,9 +4,10 @@ use Rattle.std.specs.Borrow.{Bor}
 use Rattle.refusals.specs.declared.refusal.Refusal.TheVariants.{LineNotEnded}
 use Rattle.files.specs.declared.fault.FileName.{FileName}
 use Rattle.files.specs.declared.fault.FileFault.{FileFault}
+use Rattle.files.specs.declared.fault.LineFault.{LineFault}
 use Rattle.files.specs.declared.fault.LineFault.TheVariants.{WholeLine}
 use Rattle.files.specs.declared.lines.LineReader.{LineReader}
-use Rattle.files.specs.Faults.{placed}
+use Rattle.files.specs.Faults.{then, placed, at_line}
 use Rattle.files.specs.Lines.{pieces}
 
 -- the lines to come, and behind the last byte 10 one piece more
@@ -18,6 +19,12 @@ abbrev pub next_line : FileName → ℕ → List (List ℕ) → Result (Option (
 next_line file n [] = Ok None
 next_line file n (p ∷ []) = cond (length p == 0) (Ok None) (Err (placed file (n + 1) (WholeLine LineNotEnded)))
 next_line file n (p ∷ q ∷ ps) = Ok (Some p)
+
+-- the row of the next line, or the fault of that line
+abbrev pub row_read : {R : Type 0} → FileName → ℕ → (List ℕ → Result R LineFault) → List (List ℕ) → Result (Option R) FileFault
+row_read file n line [] = Ok None
+row_read file n line (p ∷ []) = cond (length p == 0) (Ok None) (Err (placed file (n + 1) (WholeLine LineNotEnded)))
+row_read file n line (p ∷ q ∷ ps) = then (at_line file (n + 1) (line p)) (λ r. Ok (Some r))
 
 -- the lines to come once a line is taken
 abbrev pub after_line : List (List ℕ) → List (List ℕ)

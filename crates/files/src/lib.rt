@@ -8,6 +8,7 @@ pub mod lines;
 pub mod queries;
 pub mod road_file;
 pub mod roads;
+mod rows;
 pub mod tables;
 pub mod values;
 

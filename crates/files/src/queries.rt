@@ -1,13 +1,12 @@
 //! A query file, line by line, into a list of queries.
-ghost use Rattle.std.specs.Prelude.{◌≡◌, [], vec_items};
-ghost use Rattle.files.specs.Lines.{pieces};
-ghost use Rattle.files.specs.LinesLeft.{lines_left};
-ghost use Rattle.files.specs.Files.{lines_read, FillsInMemory, ReadAs};
-ghost use Rattle.files.specs.Queries.{query_named, blank_query, query_filled, query_taken, query_list, with_value};
+ghost use Rattle.std.specs.Prelude.{◌≡◌, vec_items};
+ghost use Rattle.files.specs.Files.{ReadAs};
+ghost use Rattle.files.specs.Queries.{query_named, blank_query, query_filled, query_list, with_value};
 
-use crate::columns::{Column, read_names, read_row};
-use crate::fault::{FileFault, FileName, ReadFault};
+use crate::columns::Column;
+use crate::fault::{FileName, ReadFault};
 use crate::lines::LineReader;
+use crate::rows::{next_row, read_columns};
 use crate::values::read_value;
 pub use questions::question::Question;
 use refusals::refusal::Refusal;
@@ -78,42 +77,15 @@ impl Column for QueryColumn {
     }
 }
 
-// Reads the query lines that are left behind the queries.
-fn add_lines(
-    queries: &mut Vec<Question>,
-    columns: &[QueryColumn],
-    lines: &mut LineReader,
-) -> Result<(), ReadFault>
-    ensures { FillsInMemory result queries.new.items (lines_read lines.old.file (query_taken columns.now) lines.old.taken queries.old.items (lines_left lines.old)) }
-{
-    while let Some(line) = lines.next_line()? {
-        match read_row(columns, 0, line) {
-            Ok(query) => queries.push(query)?,
-            Err(fault) => return Err(ReadFault::InFile(lines.fault(fault))),
-        }
-    }
-    Ok(())
-}
-
 /// The queries of a query file in the order of its lines, or its first fault from the top.
 pub fn read_queries(heap: Global, text: &[u8]) -> Result<Vec<Question>, ReadFault>
     ensures { ReadAs vec_items result (query_list text.now) }
 {
-    let mut queries = Vec::new(heap);
     let mut lines = LineReader::new(FileName::Queries, text);
-    match lines.next_line()? {
-        None => Err(ReadFault::InFile(FileFault {
-            file: FileName::Queries,
-            line: 1,
-            field: 0,
-            refusal: Refusal::WrongNames,
-        })),
-        Some(line) => match read_names(ALL, line) {
-            Err(fault) => Err(ReadFault::InFile(lines.fault(fault))),
-            Ok(columns) => {
-                add_lines(&mut queries, &columns, &mut lines)?;
-                Ok(queries)
-            }
-        },
+    let columns = read_columns(&mut lines, ALL)?;
+    let mut questions = Vec::new(heap);
+    while let Some(question) = next_row(&mut lines, &columns, 0)? {
+        questions.push(question)?;
     }
+    Ok(questions)
 }

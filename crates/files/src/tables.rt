@@ -2,6 +2,7 @@
 ghost use Rattle.std.specs.Prelude.{◌≡◌, ◌*◌, ◌≤◌, vec_len};
 
 /// The tables that a map is loaded from: counts of `n` numbers, heads, times and draws of `12 * n`.
+// four tables and no table of records, since a map is lent these four
 #[derive(Drop)]
 pub struct RoadTables {
     /// One above the largest junction named.

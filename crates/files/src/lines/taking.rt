@@ -2,7 +2,7 @@
 ghost use Rattle.std.specs.Prelude.{◌≡◌, ◌+◌, ◌==◌, position};
 ghost use Rattle.refusals.specs.declared.refusal.Refusal.TheVariants.{LineNotEnded};
 ghost use Rattle.files.specs.declared.fault.LineFault.TheVariants.{WholeLine};
-ghost use Rattle.files.specs.Faults.{placed};
+ghost use Rattle.files.specs.Faults.{placed, at_line};
 ghost use Rattle.files.specs.Lines.{pieces};
 ghost use Rattle.files.specs.LinesLeft.{lines_left, told, next_line, after_line, count_after};
 
@@ -39,6 +39,16 @@ impl<'a> LineReader<'a> {
         self.fault_at(self.taken, fault)
     }
 
+    // What was made of the line that was taken last, its fault with its place.
+    pub(crate) fn placed<T>(&self, made: Result<T, LineFault>) -> Result<T, FileFault>
+        ensures { result ≡ at_line self.now.file self.now.taken made }
+    {
+        let place = |fault: LineFault| -> FileFault
+            ensures { result ≡ placed self.entry.now.file self.entry.now.taken fault }
+        { self.fault(fault) };
+        made.map_err(place)
+    }
+
     // The fault of a last line that no byte 10 ends.
     fn not_ended(&self) -> FileFault
         ensures { result ≡ placed self.now.file (self.now.taken + 1) (WholeLine LineNotEnded) }
@@ -47,7 +57,7 @@ impl<'a> LineReader<'a> {
     }
 
     // A fault of the line of this number, with its place.
-    fn fault_at(&self, line: usize, fault: LineFault) -> FileFault
+    pub(crate) fn fault_at(&self, line: usize, fault: LineFault) -> FileFault
         ensures { result ≡ placed self.now.file line fault }
     {
         FileFault::from(PlacedFault {

@@ -51,27 +51,14 @@ impl RoadTables {
     }
 
     // The tables cut down to the junctions that are named.
-    pub(crate) fn trimmed(self) -> RoadTables
+    pub(crate) fn trimmed(mut self) -> RoadTables
         ensures { tables result ≡ trimmed (tables self) }
     {
-        let RoadTables {
-            junctions,
-            mut counts,
-            mut heads,
-            mut times,
-            mut draws,
-        } = self;
-        let rows = junctions as usize;
-        counts.truncate(rows);
-        heads.truncate(12 * rows);
-        times.truncate(12 * rows);
-        draws.truncate(12 * rows);
-        RoadTables {
-            junctions,
-            counts,
-            heads,
-            times,
-            draws,
-        }
+        let rows = self.junctions as usize;
+        self.counts.truncate(rows);
+        self.heads.truncate(12 * rows);
+        self.times.truncate(12 * rows);
+        self.draws.truncate(12 * rows);
+        self
     }
 }

@@ -1,11 +1,11 @@
-use Rattle.std.proofs.Common.{◌≡◌, ◌+◌, true, false, cond, length, take, Ok, Err, sym, ap, ◌∙◌, arith, rules}
+use Rattle.std.proofs.Common.{◌≡◌, true, false, cond, length, Ok, Err, sym, ap, ◌∙◌, arith, rules}
 use Rattle.std.proofs.lemmas.List.{take_all}
 use Rattle.refusals.specs.declared.refusal.Refusal.TheVariants.{WrongNames}
 use Rattle.files.specs.declared.fault.LineFault.TheVariants.{WholeLine}
 use Rattle.files.specs.Lines.{pieces}
 use Rattle.files.specs.Fields.{parted}
 use Rattle.files.specs.FieldsLeft.{fields_left}
-use Rattle.files.specs.Names.{all_among, columns_named}
+use Rattle.files.specs.Names.{all_among}
 use Rattle.files.proofs.NamesTaken.{none_left, whole_line}
 use Rattle.files.proofs.columns.read_names.Goals as goal
 

@@ -1,22 +1,18 @@
-use Rattle.std.proofs.Common.{◌≡◌, [], Some, Ok, Err, sym, ap, ◌∙◌}
+use Rattle.std.proofs.Common.{◌++◌, [], ◌∷◌, Ok, ap, ◌∙◌, vec_items}
+use Rattle.std.proofs.lemmas.Result.{err_from_is_err_and}
 use Rattle.files.specs.declared.fault.FileName.TheVariants.{Queries}
-use Rattle.files.specs.Faults.{placed}
-use Rattle.files.specs.Lines.{pieces}
-use Rattle.files.specs.LinesLeft.{lines_left, told, next_line, count_after}
-use Rattle.files.specs.Queries.{query_names_line, query_taken}
-use Rattle.files.proofs.LinesTaken.{names_refused}
+use Rattle.files.specs.LinesLeft.{lines_left, row_read}
+use Rattle.files.specs.Queries.{query_line}
+use Rattle.files.proofs.LinesTaken.{row_fault}
 use Rattle.files.proofs.queries.read_queries.Goals as goal
 
-pub returns-in-Err : goal.returns-in-Err
-returns-in-Err c =
-    let new = c.new-lines.result in
-    let file = c.new-lines.ensures.file_kept in
-    let none = c.new-lines.ensures.no_line_taken in
-    let left = c.new-lines.ensures.whole_file_left in
-    let at : next_line new.file new.taken (lines_left new) ≡ next_line Queries 0 (pieces 10 c.args.text.now) =
-    ap (λ f. next_line f new.taken (lines_left new)) file ∙ ap (λ n. next_line Queries n (lines_left new)) none ∙ ap (next_line Queries 0) left in
-    let line : Ok (Some c.in-Some.line.now) ≡ next_line Queries 0 (pieces 10 c.args.text.now) =
-    sym (ap (λ o. told (Ok o)) c.in-Some.is) ∙ c.in_ok-next_line.ensures.line_or_fault ∙ at in
-    let count = c.next_line.ensures.line_counted ∙ ap (λ n. count_after n (lines_left new)) none ∙ ap (count_after 0) left in
-    names_refused Queries query_names_line query_taken [] (pieces 10 c.args.text.now) c.in-Some.line.now c.in-Err.fault line c.in-Err.ensures
-    ∙ ap Err (sym (c.fault.ensures ∙ ap (λ f. placed f c.next_line.new.self.taken c.in-Err.fault) (c.next_line.ensures.file_kept ∙ file) ∙ ap (λ n. placed Queries n c.in-Err.fault) count))
+pub returns-in_err-question : goal.returns-in_err-question
+returns-in_err-question c =
+    let p = err_from_is_err_and c.from_residual-in_err-question.result c.from_residual-in_err-question.ensures.1 in
+    let lines = c.loop-questions.lines in
+    let line = query_line c.in_ok-columns.columns in
+    let left = lines_left lines in
+    rw (p.1, p.2)
+    (c.loop-questions.invariant.1
+    ∙ row_fault Queries line (λ qs q. Ok (qs ++ q ∷ [])) lines.taken (vec_items c.loop-questions.questions) left c.in_err-question.field-0.0
+    (c.in_err-question.ensures.row_or_fault ∙ ap (λ x. row_read x lines.taken line left) c.loop-questions.invariant.0))

@@ -1,4 +1,4 @@
-use Rattle.std.proofs.Common.{sym, ◌∙◌}
+use Rattle.std.proofs.Common.{sym}
 use Rattle.std.proofs.lemmas.List.{take_rest}
 use Rattle.files.proofs.Pieces.{piece_cut, one_piece}
 use Rattle.files.proofs.fields.taking.cut_field.Goals as goal

@@ -1,8 +1,8 @@
-use Rattle.std.proofs.Common.{◌≡◌, ◌+◌, ◌-◌, ◌<◌, false, eqb, length, take, drop, None, Some, Ok, Err, Option, ℕ, sym, refl, ap, subst, ◌∙◌, arith, length-drop, false-eqb, eqb}
+use Rattle.std.proofs.Common.{◌≡◌, ◌+◌, ◌-◌, false, eqb, length, take, drop, None, Some, Ok, Err, sym, refl, ap, ◌∙◌, arith, false-eqb, eqb}
 use Rattle.std.specs.List.{position}
 use Rattle.std.proofs.lemmas.List.{drop-drop, take_rest}
 use Rattle.files.specs.Lines.{pieces}
-use Rattle.files.proofs.Pieces.{at_end, not_ended, one_line}
+use Rattle.files.proofs.Pieces.{not_ended, one_line}
 use Rattle.files.proofs.lines.LineReader.next_line.Goals as goal
 
 pub returns-in_default : goal.returns-in_default
