@@ -1,4 +1,3 @@
-pub mod Digits
 pub mod Pieces
 pub mod NamesTaken
 pub mod RowFilled

@@ -1,18 +1,15 @@
 -- One name more of a names line.
-use Rattle.std.proofs.Common.{◌≡◌, ℕ, Bool, true, false, cond, eqb, List, [], ◌∷◌, ◌++◌, length, Some, Ok, Err, Option, Result, sym, refl, ap, ◌∙◌, subst, arith, eqb-true}
+use Rattle.std.proofs.Common.{◌≡◌, ℕ, Bool, true, false, cond, eqb, List, [], ◌∷◌, length, Ok, Err, Option, Result, sym, refl, ap, ◌∙◌, subst, arith, eqb-true}
 use Rattle.std.proofs.lemmas.Bool.{and_parts}
 use Rattle.refusals.specs.declared.refusal.Refusal.TheVariants.{WrongNames}
 use Rattle.files.specs.declared.fault.LineFault.{LineFault}
 use Rattle.files.specs.declared.fault.LineFault.TheVariants.{WholeLine}
 use Rattle.files.specs.Faults.{then}
 use Rattle.files.specs.Fields.{parted, none_empty}
-use Rattle.files.specs.Names.{all_among, one_more, columns_named, complete, names_line}
+use Rattle.files.specs.Names.{all_among, columns_named, complete, names_line}
 use Rattle.files.proofs.FirstFault.{then_ok, cond_ok, ok_no_err}
 
 module _ {C : Type 0} (named : List ℕ → Option C) where
-  pub name_taken : (seen : List C) (fs : List (List ℕ)) (f : List ℕ) (gs : List (List ℕ)) (c : C) → fs ≡ f ∷ gs → Some c ≡ named f → columns_named named seen fs ≡ columns_named named (seen ++ c ∷ []) gs
-  name_taken seen fs f gs c e g = ap (columns_named named seen) e ∙ ap (λ o. one_more seen o (λ cs. columns_named named cs gs)) (sym g)
-
   pub none_left : (seen : List C) (fs : List (List ℕ)) → length fs ≡ 0 → columns_named named seen fs ≡ Ok seen
   none_left seen [] e = refl
   none_left seen (x ∷ fs) e = absurd (omega arith)

@@ -1,12 +1,8 @@
 -- One field more of a value line.
-use Rattle.std.proofs.Common.{◌≡◌, ℕ, ◌+◌, ◌<◌, true, cond, List, [], ◌∷◌, length, get_or, drop, Ok, Err, Result, sym, refl, ap, ◌∙◌}
+use Rattle.std.proofs.Common.{◌≡◌, ℕ, ◌+◌, ◌<◌, List, [], ◌∷◌, length, get_or, drop, Ok, sym, refl, ap, ◌∙◌}
 use Rattle.std.proofs.lemmas.List.{at_drop_more}
-use Rattle.refusals.specs.declared.refusal.Refusal.TheVariants.{FieldCountDiffers}
-use Rattle.files.specs.declared.fault.LineFault.{LineFault}
-use Rattle.files.specs.declared.fault.LineFault.TheVariants.{WholeLine}
 use Rattle.files.specs.Faults.{Checked, then, in_line, in_field}
-use Rattle.files.specs.Fields.{parted}
-use Rattle.files.specs.Values.{fields_filled, value_line}
+use Rattle.files.specs.Values.{fields_filled}
 
 module _ {C X : Type 0} (fill : X → C → List ℕ → Checked X) where
   pub field_filled : (n : ℕ) (cs : List C) (i : ℕ) (d : C) (fs : List (List ℕ)) (x : X) (f : List ℕ) (gs : List (List ℕ)) → i < length cs → d ≡ get_or cs i d → fs ≡ f ∷ gs → fields_filled fill n (drop i cs) fs x ≡ then (in_line (in_field n (fill x d f))) (fields_filled fill (n + 1) (drop (i + 1) cs) gs)
@@ -21,6 +17,3 @@ module _ {C X : Type 0} (fill : X → C → List ℕ → Checked X) where
 
   pub no_field : (n m : ℕ) (cs ds : List C) (fs gs : List (List ℕ)) (x : X) → fs ≡ [] → gs ≡ [] → fields_filled fill n cs fs x ≡ fields_filled fill m ds gs x
   no_field n m cs ds fs gs x e d = ap (λ l. fields_filled fill n cs l x) e ∙ all_filled n cs x ∙ sym (ap (λ l. fields_filled fill m ds l x) d ∙ all_filled m ds x)
-
-  pub whole_row : (cs : List C) (fs : List (List ℕ)) (blank : X) (r : Result X LineFault) → true ≡ parted (length cs) fs → fields_filled fill 1 cs fs blank ≡ r → r ≡ value_line fill cs blank fs
-  whole_row cs fs blank r t e = sym e ∙ sym (ap (λ b. cond b (fields_filled fill 1 cs fs blank) (Err (WholeLine FieldCountDiffers))) (sym t))
