@@ -1,9 +1,9 @@
 -- What an office may conclude, from what begin, advance and trace promise.
-use Rattle.std.proofs.Common.{◌≡◌, ℕ, zero, suc, ◌<◌, ◌≤◌, true, false, ◌&&◌, ◌||◌, eqb, ltb, List, [], length, get_or, take, Some, None, Ok, Err, Option, sym, refl, ap, ◌∙◌, subst, ⊎_elim, arith}
+use Rattle.std.proofs.Common.{◌≡◌, ℕ, min, zero, suc, ◌<◌, ◌≤◌, List, [], length, get_or, take, Some, None, Ok, Option, sym, refl, ap, ◌∙◌, subst, ⊎_elim, arith}
 use lib.ListN.{length-map}
 use Rattle.std.specs.List.{ContainsAt as Has}
 use Rattle.std.proofs.lemmas.List.{take_all}
-use Rattle.std.proofs.lemmas.Bool.{cases_lt, eq-eqb, ne_eqb, le-ltb, and_from}
+use Rattle.std.proofs.lemmas.Bool.{cases_lt}
 use Rattle.refusals.specs.declared.refusal.Refusal.{Refusal}
 use Rattle.loads.specs.declared.charge.Charge.{Charge}
 use Rattle.loads.specs.Charge.{charge}
@@ -24,27 +24,25 @@ use Rattle.promises.specs.declared.standing.Standing.TheVariants.{Paused, Arrive
 use Rattle.promises.specs.Numbers.{Numbers, tables, AllUnchanged}
 use Rattle.promises.specs.StandsFor.{StandsFor, labels_of}
 use Rattle.promises.specs.Refuses.{Refuses}
+use Rattle.promises.specs.Begin.{begin_check, BeginPromise, Begun}
 use Rattle.promises.specs.Advance.{advance_check, Advanced, AdvancedFor, AdvancePromise, StandingSays, NoneAt, SomeUnbeatenUnlisted}
 use Rattle.promises.proofs.Records.{take_stored, below_take}
 use Rattle.promises.proofs.ListedLabels.{listed_is_unbeaten, label_0_is_the_departure, first_at_the_goal_is_the_fastest}
-use Rattle.planner.specs.declared.answer.Answer.TheVariants.{Refused}
+use Rattle.planner.specs.declared.answer.Answer.{Answer}
+use Rattle.planner.specs.declared.answer.Answer.TheVariants.{Route}
 use Rattle.planner.specs.Answer.{AnsweredBy, MayConclude, FastestDrive, FrontHasMore, NoDrive}
-use Rattle.planner.specs.Roads.{RoadsOf}
+use Rattle.planner.specs.Told.{RoadsOf, ToldBy}
 
-pub begin_was_refused : {A : Type 0} (q : Query Charge) (n : ℕ) (check : Option Refusal) (f : Refusal) (same : Type 0) (P : A → Type 0) → Refuses check (Err f) same P → AnsweredBy check q n (Refused f)
-begin_was_refused q n None f same P r = absurd r
-begin_was_refused q n (Some g) f same P r = ap Refused r.0
-
--- a begin that was accepted passed its checks
-pub accepted : {A : Type 0} (check : Option Refusal) (a : A) (same : Type 0) (P : A → Type 0) → Refuses check (Ok a) same P → (check ≡ None) × P a
+-- a call that was accepted passed its checks
+accepted : {A : Type 0} (check : Option Refusal) (a : A) (same : Type 0) (P : A → Type 0) → Refuses check (Ok a) same P → (check ≡ None) × P a
 accepted None a same P r = (refl, r)
 accepted (Some f) a same P r = absurd r
 
-pub concluded : (check : Option Refusal) (q : Query Charge) (n : ℕ) (answer : _) → check ≡ None → MayConclude q n answer → AnsweredBy check q n answer
-concluded check q n answer e x = subst (λ o. AnsweredBy o q n answer) (sym e) x
+answered : (check : Option Refusal) (q : Query Charge) (n : ℕ) (answer : Answer) → check ≡ None → MayConclude q n answer → AnsweredBy check q n (Ok answer)
+answered check q n answer e x = subst (λ o. AnsweredBy o q n (Ok answer)) (sym e) x
 
 -- the start is the goal
-pub already_there : (q : Query Charge) (level : ℕ) → Valid q → q.start ≡ q.goal → q.load ≡ charge level → FastestDrive q 0 level 0
+already_there : (q : Query Charge) (level : ℕ) → Valid q → q.start ≡ q.goal → q.load ≡ charge level → FastestDrive q 0 level 0
 already_there q level valid there load = record {
   walk = [];
   drives_to_the_goal = subst (λ (a : Arrival Charge). Drives q [] a) (λ i. record { junction = there i; time = 0; load = load i }) empty_walk;
@@ -69,7 +67,7 @@ module _ (q : Query Charge) (s s' : Numbers) (ls ls' : List (Label Charge)) (ws 
   from_the_first b none zero x lo hi st g = not_label_0 x st g
   from_the_first b none (suc i) x lo hi st g = none (suc i) x (omega (arith, one)) hi st g
 
-  pub ended_means_no_drive : p.standing ≡ Ended → NoDrive q
+  ended_means_no_drive : p.standing ≡ Ended → NoDrive q
   ended_means_no_drive e a reached goal =
       junction_without_label_is_not_reached q after.stands.valid (take s'.listed ls')
       (subst (λ (n : ℕ). Invariant q (take s'.listed ls') (labels_of (take n ws'))) (adv.nothing_waits_once_ended e) after.stands.invariant) q.goal none a reached goal
@@ -77,10 +75,10 @@ module _ (q : Query Charge) (s s' : Numbers) (ls ls' : List (Label Charge)) (ws 
       none : (y : Label Charge) → Has (take s'.listed ls') y → y.arrival.junction ≡ q.goal → ⊥
       none y (i, h, d) g = from_the_first s'.listed (says Ended e).1 i y (omega arith) (below_take ls' s'.listed i y (h, d)) (take_stored ls' s'.listed i y (h, d)) g
 
-  pub never_paused : p.standing ≡ Paused → ⊥
+  never_paused : p.standing ≡ Paused → ⊥
   never_paused e = omega (arith, (says Paused e).0, one, adv.lists_within_the_table, adv.labels_keep_their_length, roomy)
 
-  pub full_means_more : p.standing ≡ Full → FrontHasMore q (length ls)
+  full_means_more : p.standing ≡ Full → FrontHasMore q (length ls)
   full_means_more e = record {
     labels = ls';
     all_used = adv.labels_keep_their_length;
@@ -92,16 +90,14 @@ module _ (q : Query Charge) (s s' : Numbers) (ls ls' : List (Label Charge)) (ws 
       used : s'.listed ≡ length ls
       used = (says Full e).2 ∙ adv.labels_keep_their_length
 
-  pub arrived_inside : (n : ℕ) → p.standing ≡ Arrived n → n < length ls'
-  arrived_inside n e = omega (arith, (says (Arrived n) e).1, adv.lists_within_the_table)
-
-  pub arrived_means_fastest : (n count : ℕ) (d : Label Charge) → p.standing ≡ Arrived n → RoadsOf s' ls' n count → FastestDrive q (get_or ls' n d).arrival.time (get_or ls' n d).arrival.load.level count
-  arrived_means_fastest n count d e roads =
+  arrived_means_fastest : (n roads : ℕ) → p.standing ≡ Arrived n → RoadsOf s' ls' n roads → (answer : Answer) → ((d : Label Charge) → answer ≡ Route (record { seconds = (get_or ls' n d).arrival.time; charge = (get_or ls' n d).arrival.load.level; roads = roads })) → MayConclude q (length ls) answer
+  arrived_means_fastest n count e roads answer is =
       let said = says (Arrived n) e in
       let lt : n < s'.listed = omega (arith, said.1) in
       let (w, x, here, traced, counted) = roads q ws' after.stands lt in
       let goal = said.3 x here in
-      subst (λ (y : Label Charge). FastestDrive q y.arrival.time y.arrival.load.level count) (sym (here.1 d)) (record {
+      let told : answer ≡ Route (record { seconds = x.arrival.time; charge = x.arrival.load.level; roads = count }) = is x ∙ ap (λ (y : Label Charge). Route (record { seconds = y.arrival.time; charge = y.arrival.load.level; roads = count })) (here.1 x) in
+      subst (λ (a : Answer). MayConclude q (length ls) a) (sym told) (record {
         walk = places w;
         drives_to_the_goal = subst (λ (a : Arrival Charge). Drives q (places w) a) (λ i. record { junction = goal i; time = x.arrival.time; load = x.arrival.load }) (legs_drive_their_places q traced.drives);
         unbeaten = subst (λ (a : Arrival Charge). Unbeaten q a) (λ i. record { junction = goal i; time = x.arrival.time; load = x.arrival.load }) (listed_is_unbeaten q s' ls' ws' after.stands n x lt here);
@@ -109,11 +105,23 @@ module _ (q : Query Charge) (s s' : Numbers) (ls ls' : List (Label Charge)) (ws 
         none_faster = first_at_the_goal_is_the_fastest q s' ls' ws' after.stands n x lt here goal (λ i y hi st g. ⊎_elim (λ (l : i < n). absurd (from_the_first n said.2 i y (omega arith) l st g)) (λ l. l) (cases_lt i n));
       })
 
--- an advance of a search that stands, with a budget in range, is accepted
-pub advance_is_accepted : (q : Query Charge) (s s' : Numbers) (ls ls' : List (Label Charge)) (ws ws' : List (Candidate Charge)) → StandsFor q s ls ws → (budget : ℕ) → 1 ≤ budget → budget ≤ 65535 → (f : Refusal) → AdvancePromise q.rows q.kind budget (tables ls ws ls' ws') s s' (Err f) → ⊥
-advance_is_accepted q s s' ls ls' ws ws' st budget lo hi f r =
-    let same : (eqb (length q.rows) s.junctions && (eqb (length ls) s.room && eqb (length ws) s.width)) ≡ true =
-    and_from _ _ (eq-eqb (length q.rows) s.junctions (sym st.junctions)) (and_from _ _ (eq-eqb (length ls) s.room (sym st.room)) (eq-eqb (length ws) s.width (sym st.width))) in
-    let in_range : (eqb budget 0 || ltb 65535 budget) ≡ false = ap (λ t. t || ltb 65535 budget) (ne_eqb budget 0 (λ e. omega (arith, e))) ∙ le-ltb 65535 budget hi in
-    let passed : advance_check s (length q.rows) (length ls) (length ws) budget ≡ None = simp (st.begun, same, in_range) in
-    subst (λ o. Refuses o (Err f) (AllUnchanged (tables ls ws ls' ws') s s') (Advanced q.rows q.kind budget (tables ls ws ls' ws') s s')) passed r
+  pub told_is_so : (standing : Standing) → p.standing ≡ standing → (answer : Answer) → ToldBy s' ls' standing answer → MayConclude q (length ls) answer
+  told_is_so (Arrived n) e answer (count, roads, is) = arrived_means_fastest n count e roads answer is
+  told_is_so Ended e answer is = subst (λ (a : Answer). MayConclude q (length ls) a) (sym is) (ended_means_no_drive e)
+  told_is_so Full e answer is = subst (λ (a : Answer). MayConclude q (length ls) a) (sym is) (full_means_more e)
+  told_is_so Paused e answer is = absurd (never_paused e)
+
+-- a search for a query began, with the lent tables
+module _ (q : Query Charge) (ls₀ ls : List (Label Charge)) (ws₀ ws : List (Candidate Charge)) (s₀ s : Numbers) (began : Standing) (begun : BeginPromise q (tables ls₀ ws₀ ls ws) s₀ s (Ok began)) where
+  first : (begin_check (length q.rows) (q.kind.admits q.load) q.start q.goal q.deadline (length ls₀) (length ws₀) ≡ None) × Begun q (tables ls₀ ws₀ ls ws) s began
+  first = accepted (begin_check (length q.rows) (q.kind.admits q.load) q.start q.goal q.deadline (length ls₀) (length ws₀)) began (AllUnchanged (tables ls₀ ws₀ ls ws) s₀ s) (Begun q (tables ls₀ ws₀ ls ws) s) begun
+
+  pub so_at_the_start : (level : ℕ) → q.load ≡ charge level → q.start ≡ q.goal → AnsweredBy (begin_check (length q.rows) (q.kind.admits q.load) q.start q.goal q.deadline (length ls₀) (length ws₀)) q (length ls₀) (Ok (Route (record { seconds = 0; charge = level; roads = 0 })))
+  so_at_the_start level load there = answered _ q (length ls₀) _ first.0 (already_there q level first.1.stands.valid there load)
+
+  pub so_after_the_advance : (q.start ≡ q.goal → ⊥) → length ls ≡ length ls₀ → s.room ≤ 65535 → (ls' : List (Label Charge)) (ws' : List (Candidate Charge)) (s' : Numbers) (budget : ℕ) → budget ≡ min (length ls) 65535 → (p : Progress) → AdvancePromise q.rows q.kind budget (tables ls ws ls' ws') s s' (Ok p) → (answer : Answer) → ToldBy s' ls' p.standing answer
+      → AnsweredBy (begin_check (length q.rows) (q.kind.admits q.load) q.start q.goal q.deadline (length ls₀) (length ws₀)) q (length ls₀) (Ok answer)
+  so_after_the_advance elsewhere same most ls' ws' s' budget is p advanced answer told =
+      let roomy : length ls ≤ budget = omega (arith, first.1.stands.room) in
+      let adv = (accepted (advance_check s (length q.rows) (length ls) (length ws) budget) p (AllUnchanged (tables ls ws ls' ws') s s') (Advanced q.rows q.kind budget (tables ls ws ls' ws') s s') advanced).1 in
+      answered _ q (length ls₀) answer first.0 (subst (λ n. MayConclude q n answer) same (told_is_so q s s' ls ls' ws ws' first.1.stands first.1.one_label_is_listed elsewhere budget p adv roomy p.standing refl answer told))

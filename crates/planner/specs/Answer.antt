@@ -1,5 +1,5 @@
 -- What an office may conclude from the answer to a query.
-use Rattle.std.specs.Prelude.{◌≡◌, ℕ, cond, ◌||◌, List, length, Some, None, Option, ◌==◌, ◌≢◌, nat_lt}
+use Rattle.std.specs.Prelude.{◌≡◌, ℕ, cond, ◌||◌, List, length, Some, None, Err, Option, Result, IsOkAnd, ◌==◌, ◌≢◌, nat_lt}
 use Rattle.refusals.specs.declared.refusal.Refusal.{Refusal}
 use Rattle.refusals.specs.declared.refusal.Refusal.TheVariants.{HeaterPowerTooHigh, CapacityOutOfRange}
 use Rattle.maps.specs.Rows.{Rows}
@@ -15,8 +15,8 @@ use Rattle.promises.specs.Begin.{query, begin_check}
 use Rattle.promises.specs.Advance.{NoneAt, SomeUnbeatenUnlisted}
 use Rattle.promises.specs.Law.{NoneFaster}
 use Rattle.planner.specs.declared.answer.Answer.{Answer}
-use Rattle.planner.specs.declared.answer.Answer.TheVariants.{Route, NoRoute, Full, Refused}
-use Rattle.planner.specs.declared.answer.Question.{Question}
+use Rattle.planner.specs.declared.answer.Answer.TheVariants.{Route, NoRoute, Full}
+use Rattle.questions.specs.declared.question.Question.{Question}
 
 -- the query that a question asks on a map: its heater is on, and its van has this battery
 abbrev pub query_of : Rows → Question → Query Charge
@@ -54,12 +54,11 @@ pub record FrontHasMore (q : Query Charge) (n : ℕ) : Type 0 where
 
 -- what each answer means, with n labels
 abbrev pub MayConclude : Query Charge → ℕ → Answer → Type 0
-MayConclude q n (Route seconds level roads) = FastestDrive q seconds level roads
+MayConclude q n (Route r) = FastestDrive q r.seconds r.charge r.roads
 MayConclude q n NoRoute = NoDrive q
 MayConclude q n Full = FrontHasMore q n
-MayConclude q n (Refused f) = ⊥
 
 -- refused exactly by the first failing check; otherwise what the answer says is so
-abbrev pub AnsweredBy : Option Refusal → Query Charge → ℕ → Answer → Type 0
-AnsweredBy None q n answer = MayConclude q n answer
-AnsweredBy (Some f) q n answer = answer ≡ Refused f
+abbrev pub AnsweredBy : Option Refusal → Query Charge → ℕ → Result Answer Refusal → Type 0
+AnsweredBy None q n result = IsOkAnd result (MayConclude q n)
+AnsweredBy (Some f) q n result = result ≡ Err f

@@ -1,4 +1,4 @@
-//! One query answered: is there a drive to the goal, and which is the fastest.
+//! One question answered: is there a drive to the goal, and which is the fastest.
 #![tactic(auto)]
 
 pub mod answer;
