@@ -1,8 +1,9 @@
 -- What an office may conclude, from what begin, advance and trace promise.
-use Rattle.std.proofs.Common.{◌≡◌, ℕ, min, zero, suc, ◌<◌, ◌≤◌, List, [], length, get_or, take, Some, None, Ok, Option, sym, refl, ap, ◌∙◌, subst, ⊎_elim, arith}
+use Rattle.std.proofs.Common.{◌≡◌, ℕ, min, zero, suc, ◌<◌, ◌≤◌, Bool, List, [], length, get_or, take, Some, None, Ok, Option, sym, refl, ap, ◌∙◌, subst, ⊎_elim, arith}
 use lib.ListN.{length-map}
 use Rattle.std.specs.List.{ContainsAt as Has}
 use Rattle.std.proofs.lemmas.List.{take_all}
+use Rattle.std.proofs.lemmas.Bool.Decides.{nat_tests}
 use Rattle.std.proofs.lemmas.Bool.{cases_lt}
 use Rattle.refusals.specs.declared.refusal.Refusal.{Refusal}
 use Rattle.loads.specs.declared.charge.Charge.{Charge}
@@ -111,6 +112,9 @@ module _ (q : Query Charge) (s s' : Numbers) (ls ls' : List (Label Charge)) (ws 
   told_is_so Full e answer is = subst (λ (a : Answer). MayConclude q (length ls) a) (sym is) (full_means_more e)
   told_is_so Paused e answer is = absurd (never_paused e)
 
+few_labels : (n : ℕ) (admitted : Bool) (start goal deadline labels waiting : ℕ) → begin_check n admitted start goal deadline labels waiting ≡ None → labels ≤ 65535
+few_labels n admitted start goal deadline labels waiting e = grind (arith, nat_tests)
+
 -- a search for a query began, with the lent tables
 module _ (q : Query Charge) (ls₀ ls : List (Label Charge)) (ws₀ ws : List (Candidate Charge)) (s₀ s : Numbers) (began : Standing) (begun : BeginPromise q (tables ls₀ ws₀ ls ws) s₀ s (Ok began)) where
   first : (begin_check (length q.rows) (q.kind.admits q.load) q.start q.goal q.deadline (length ls₀) (length ws₀) ≡ None) × Begun q (tables ls₀ ws₀ ls ws) s began
@@ -119,9 +123,9 @@ module _ (q : Query Charge) (ls₀ ls : List (Label Charge)) (ws₀ ws : List (C
   pub so_at_the_start : (level : ℕ) → q.load ≡ charge level → q.start ≡ q.goal → AnsweredBy (begin_check (length q.rows) (q.kind.admits q.load) q.start q.goal q.deadline (length ls₀) (length ws₀)) q (length ls₀) (Ok (Route (record { seconds = 0; charge = level; roads = 0 })))
   so_at_the_start level load there = answered _ q (length ls₀) _ first.0 (already_there q level first.1.stands.valid there load)
 
-  pub so_after_the_advance : (q.start ≡ q.goal → ⊥) → length ls ≡ length ls₀ → s.room ≤ 65535 → (ls' : List (Label Charge)) (ws' : List (Candidate Charge)) (s' : Numbers) (budget : ℕ) → budget ≡ min (length ls) 65535 → (p : Progress) → AdvancePromise q.rows q.kind budget (tables ls ws ls' ws') s s' (Ok p) → (answer : Answer) → ToldBy s' ls' p.standing answer
+  pub so_after_the_advance : (q.start ≡ q.goal → ⊥) → length ls ≡ length ls₀ → (ls' : List (Label Charge)) (ws' : List (Candidate Charge)) (s' : Numbers) (budget : ℕ) → budget ≡ min (length ls) 65535 → (p : Progress) → AdvancePromise q.rows q.kind budget (tables ls ws ls' ws') s s' (Ok p) → (answer : Answer) → ToldBy s' ls' p.standing answer
       → AnsweredBy (begin_check (length q.rows) (q.kind.admits q.load) q.start q.goal q.deadline (length ls₀) (length ws₀)) q (length ls₀) (Ok answer)
-  so_after_the_advance elsewhere same most ls' ws' s' budget is p advanced answer told =
-      let roomy : length ls ≤ budget = omega (arith, first.1.stands.room) in
+  so_after_the_advance elsewhere same ls' ws' s' budget is p advanced answer told =
+      let roomy : length ls ≤ budget = omega (arith, few_labels (length q.rows) (q.kind.admits q.load) q.start q.goal q.deadline (length ls₀) (length ws₀) first.0) in
       let adv = (accepted (advance_check s (length q.rows) (length ls) (length ws) budget) p (AllUnchanged (tables ls ws ls' ws') s s') (Advanced q.rows q.kind budget (tables ls ws ls' ws') s s') advanced).1 in
       answered _ q (length ls₀) answer first.0 (subst (λ n. MayConclude q n answer) same (told_is_so q s s' ls ls' ws ws' first.1.stands first.1.one_label_is_listed elsewhere budget p adv roomy p.standing refl answer told))

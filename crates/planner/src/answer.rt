@@ -12,6 +12,7 @@ use maps::Map;
 use maps::heater::{Heater, Power};
 use promises::candidate::Candidate;
 use promises::standing::Standing;
+use promises::trip::Trip;
 pub use questions::Question;
 use refusals::refusal::Refusal;
 use search::Search;
@@ -77,20 +78,16 @@ fn answer_with<M: Map>(
 ) -> Result<Answer, Refusal>
     ensures { AnsweredBy (begin_check (length (M.Map.rows map.now)) ((charges kind.now.capacity).admits (charge_of question.charge)) question.start question.goal question.deadline (length labels.old) (length waiting.old)) (query (M.Map.rows map.now) (charges kind.now.capacity) question.start (charge_of question.charge) question.goal question.deadline) (length labels.old) result }
 {
-    let load = Charge {
-        level: question.charge,
+    let trip = Trip {
+        start: question.start,
+        load: Charge {
+            level: question.charge,
+        },
+        goal: question.goal,
+        deadline: question.deadline,
     };
     let mut search = Search::new();
-    search.begin(
-        map,
-        kind,
-        labels,
-        waiting,
-        question.start,
-        load,
-        question.goal,
-        question.deadline,
-    )?;
+    search.begin(map, kind, trip, labels, waiting)?;
     if question.start == question.goal {
         return Ok(Answer::Route(Route {
             seconds: 0,
