@@ -1,11 +1,12 @@
 -- The line that is written for an answer: query, answer, seconds, charge, roads and code, with `-` where there is none.
-use Rattle.std.specs.Prelude.{ℕ, List, ◌++◌, codes, decimal}
+use Rattle.std.specs.Prelude.{ℕ, List, ◌++◌, Ok, Err, codes, decimal, Result}
+use Rattle.refusals.specs.declared.refusal.Refusal.{Refusal}
 use Rattle.refusals.specs.Numbers.{number}
 use Rattle.planner.specs.declared.answer.Answer.{Answer}
-use Rattle.planner.specs.declared.answer.Answer.TheVariants.{Route, NoRoute, Full, Refused}
+use Rattle.planner.specs.declared.answer.Answer.TheVariants.{Route, NoRoute, Full}
 
-abbrev pub answer_line : ℕ → Answer → List ℕ
-answer_line n (Route seconds charge roads) = decimal n ++ (codes " route " ++ (decimal seconds ++ (codes " " ++ (decimal charge ++ (codes " " ++ (decimal roads ++ codes " -"))))))
-answer_line n NoRoute = decimal n ++ codes " none - - - -"
-answer_line n Full = decimal n ++ codes " full - - - -"
-answer_line n (Refused f) = decimal n ++ (codes " refused - - - " ++ decimal (number f))
+abbrev pub answer_line : ℕ → Result Answer Refusal → List ℕ
+answer_line n (Ok (Route r)) = decimal n ++ (codes " route " ++ (decimal r.seconds ++ (codes " " ++ (decimal r.charge ++ (codes " " ++ (decimal r.roads ++ codes " -"))))))
+answer_line n (Ok NoRoute) = decimal n ++ codes " none - - - -"
+answer_line n (Ok Full) = decimal n ++ codes " full - - - -"
+answer_line n (Err f) = decimal n ++ (codes " refused - - - " ++ decimal (number f))
