@@ -3,46 +3,38 @@
 #![tactic(auto)]
 
 use anyhow::anyhow;
-use files::fault::{FileFault, FileName, ReadFault};
+use files::fault::{FileName, ReadFault};
 use files::road_file::read_roads;
 use inputs::text_file::{print_fault, read_file};
 use office::answer_line::AnswerLine;
 use office::answers::{JUNCTIONS, answer_files};
 use planner::answer::Answer;
+use refusals::refusal::Refusal;
 use std::io;
 
-// The fault to tell where the queries cannot be read: the roads' own, if there is one.
-fn fault_of_both(
-    rt: &HostRuntime,
-    roads: &[u8],
-    queries: FileFault,
-) -> Result<Vec<Answer>, ReadFault> {
-    let _ = read_roads(rt.alloc(), roads, JUNCTIONS)?;
-    Err(ReadFault::InFile(queries))
+// The answers, or the first fault; where the queries cannot be read, the roads' own fault comes first.
+fn answers(rt: &HostRuntime) -> Result<Vec<Result<Answer, Refusal>>, ReadFault> {
+    let roads = read_file(rt, FileName::Roads)?;
+    match read_file(rt, FileName::Queries) {
+        Ok(queries) => answer_files(rt.alloc(), &roads, &queries),
+        Err(fault) => {
+            let _ = read_roads(rt.alloc(), &roads, JUNCTIONS)?;
+            Err(ReadFault::InFile(fault))
+        }
+    }
 }
 
-fn print_answers(rt: &HostRuntime, answers: &[Answer]) -> io::Result<()> {
+fn print_answers(rt: &HostRuntime, answers: &[Result<Answer, Refusal>]) -> io::Result<()> {
     println!(rt; "query answer seconds charge roads code")?;
-    for (i, answer) in answers.iter().enumerate() {
-        let line = AnswerLine {
-            query: i.saturating_add(1),
-            answer: *answer,
-        };
+    for (query, &answer) in (1..=answers.len()).zip(answers) {
+        let line = AnswerLine { query, answer };
         println!(rt; "{line}")?;
     }
     Ok(())
 }
 
 fn main(rt: HostRuntime) -> anyhow::Result<()> {
-    let roads = match read_file(&rt, FileName::Roads) {
-        Ok(bytes) => bytes,
-        Err(fault) => return Ok(print_fault(&rt, fault)?),
-    };
-    let answered = match read_file(&rt, FileName::Queries) {
-        Ok(queries) => answer_files(rt.alloc(), &roads, &queries),
-        Err(fault) => fault_of_both(&rt, &roads, fault),
-    };
-    match answered {
+    match answers(&rt) {
         Ok(answers) => Ok(print_answers(&rt, &answers)?),
         Err(ReadFault::InFile(fault)) => Ok(print_fault(&rt, fault)?),
         Err(ReadFault::NoMemory) => Err(anyhow!("out of memory")),
