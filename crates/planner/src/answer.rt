@@ -76,7 +76,7 @@ fn answer_with<M: Map>(
     labels: &mut [Label<Charge>],
     waiting: &mut [Candidate<Charge>],
 ) -> Result<Answer, Refusal>
-    ensures { AnsweredBy (begin_check (length (M.Map.rows map.now)) ((charges kind.now.capacity).admits (charge_of question.charge)) question.start question.goal question.deadline (length labels.old) (length waiting.old)) (query (M.Map.rows map.now) (charges kind.now.capacity) question.start (charge_of question.charge) question.goal question.deadline) (length labels.old) result }
+    ensures { AnsweredBy (begin_check (length (M.Map.rows map.now)) ((charges kind.now.capacity.watt_hours).admits (charge_of question.charge)) question.start question.goal question.deadline (length labels.old) (length waiting.old)) (query (M.Map.rows map.now) (charges kind.now.capacity.watt_hours) question.start (charge_of question.charge) question.goal question.deadline) (length labels.old) result }
 {
     let trip = Trip {
         start: question.start,

@@ -18,7 +18,7 @@ use refusals::refusal::Refusal;
 
 // Whether the first label's load is the kind's plain profile.
 fn starts_plain(kind: &ProfileKind, labels: &[Label<Profile>]) -> bool
-    ensures { result ≡ begins_plain kind.now.capacity labels.now }
+    ensures { result ≡ begins_plain kind.now.capacity.watt_hours labels.now }
 {
     labels
         .first()
@@ -116,8 +116,8 @@ impl Search {
         labels: &[Label<Profile>],
         rows: &mut [Row],
     ) -> Result<u32, Refusal>
-        ensures promised { ChartPromise (charting kind.now.capacity labels.now rows.old rows.new result) (numbers self.now) }
-        ensures every_run_with_this_call_keeps_the_law { (h : History Load) → Run h (numbers self.now) → Keeps ToldByCharts (chart_call (charting kind.now.capacity labels.now rows.old rows.new result) ∷ h) }
+        ensures promised { ChartPromise (charting kind.now.capacity.watt_hours labels.now rows.old rows.new result) (numbers self.now) }
+        ensures every_run_with_this_call_keeps_the_law { (h : History Load) → Run h (numbers self.now) → Keeps ToldByCharts (chart_call (charting kind.now.capacity.watt_hours labels.now rows.old rows.new result) ∷ h) }
     {
         let Some(run) = self.run else {
             return Err(Refusal::NotBegun);
