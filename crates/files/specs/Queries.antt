@@ -1,5 +1,5 @@
 -- A query file: its columns by name, the values in them, and the list of its queries or its first fault.
-use Rattle.std.specs.Prelude.{ℕ, Bool, cond, List, [], ◌∷◌, ◌++◌, Some, None, Ok, codes, Option, Result}
+use Rattle.std.specs.Prelude.{ℕ, Bool, cond, List, [], ◌∷◌, ◌++◌, Some, None, Ok, codes, Option, Result, ◌==◌}
 use Rattle.std.specs.Str.{bytes_eq}
 use Rattle.questions.specs.declared.question.Question.{Question}
 use Rattle.files.specs.declared.fault.FileName.TheVariants.{Queries}
@@ -7,7 +7,6 @@ use Rattle.files.specs.declared.fault.LineFault.{LineFault}
 use Rattle.files.specs.declared.fault.FileFault.{FileFault}
 use Rattle.files.specs.declared.queries.QueryColumn.{QueryColumn}
 use Rattle.files.specs.declared.queries.QueryColumn.TheVariants.{Start, Goal, Charge, Capacity, Deadline, Heater}
-use Rattle.files.specs.contracts.queries.QueryColumnPartialEq.TheImpl as query_eq
 use Rattle.files.specs.Faults.{Checked, then}
 use Rattle.files.specs.Lines.{pieces}
 use Rattle.files.specs.Names.{names_line}
@@ -17,9 +16,17 @@ use Rattle.files.specs.Files.{file_read}
 abbrev pub query_columns : List QueryColumn
 query_columns = Start ∷ Goal ∷ Charge ∷ Capacity ∷ Deadline ∷ Heater ∷ []
 
--- columns are the same as `==` of their type says
+abbrev pub query_number : QueryColumn → ℕ
+query_number Start = 0
+query_number Goal = 1
+query_number Charge = 2
+query_number Capacity = 3
+query_number Deadline = 4
+query_number Heater = 5
+
+-- columns are told apart by their numbers
 abbrev pub query_same : QueryColumn → QueryColumn → Bool
-query_same = (query_eq.ghosts).eq
+query_same c d = query_number c == query_number d
 
 abbrev pub query_named : List ℕ → Option QueryColumn
 query_named f =

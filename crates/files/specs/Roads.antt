@@ -1,12 +1,11 @@
 -- A road line: its columns by name, and the values in them.
-use Rattle.std.specs.Prelude.{ℕ, Bool, cond, ◌&&◌, List, [], ◌∷◌, ℤ, pos, negsuc, Some, None, Ok, Err, codes, Option, Result, int_le, nat_le, nat_lt}
+use Rattle.std.specs.Prelude.{ℕ, Bool, cond, ◌&&◌, List, [], ◌∷◌, ℤ, pos, negsuc, Some, None, Ok, Err, codes, Option, Result, ◌==◌, int_le, nat_le, nat_lt}
 use Rattle.std.specs.Str.{bytes_eq}
 use Rattle.refusals.specs.declared.refusal.Refusal.TheVariants.{JunctionBeyondRoom, RoadTimeOutOfRange, RoadDrawOutOfRange}
 use Rattle.files.specs.declared.fault.LineFault.{LineFault}
 use Rattle.files.specs.declared.roads.RoadColumn.{RoadColumn}
 use Rattle.files.specs.declared.roads.RoadColumn.TheVariants.{From, To, Seconds, WattHours}
 use Rattle.files.specs.declared.roads.RoadLine.{RoadLine}
-use Rattle.files.specs.contracts.roads.RoadColumnPartialEq.TheImpl as road_eq
 use Rattle.files.specs.Faults.{Checked, then}
 use Rattle.files.specs.Lines.{pieces}
 use Rattle.files.specs.Names.{names_line}
@@ -15,9 +14,15 @@ use Rattle.files.specs.Values.{value, signed_value, value_line}
 abbrev pub road_columns : List RoadColumn
 road_columns = From ∷ To ∷ Seconds ∷ WattHours ∷ []
 
--- columns are the same as `==` of their type says
+abbrev pub road_number : RoadColumn → ℕ
+road_number From = 0
+road_number To = 1
+road_number Seconds = 2
+road_number WattHours = 3
+
+-- columns are told apart by their numbers
 abbrev pub road_same : RoadColumn → RoadColumn → Bool
-road_same = (road_eq.ghosts).eq
+road_same c d = road_number c == road_number d
 
 abbrev pub road_named : List ℕ → Option RoadColumn
 road_named f =

@@ -1,5 +1,5 @@
 //! The names line and the value lines, read alike for every kind of file.
-ghost use Rattle.std.specs.Prelude.{◌≡◌, ℕ, List, Option};
+ghost use Rattle.std.specs.Prelude.{◌≡◌, ℕ, Bool, List, Option};
 ghost use Rattle.files.specs.Lines.{pieces};
 ghost use Rattle.files.specs.Faults.{Checked};
 ghost use Rattle.files.specs.Names.{all_among, names_line};
@@ -14,6 +14,9 @@ use refusals::refusal::Refusal;
 pub trait Column: Copy + Eq {
     /// What a value line holds.
     type Row: Copy;
+
+    // which columns are one and the same
+    ghost same: { Self → Self → Bool };
 
     // the column that a name stands for
     ghost named: { List ℕ → Option Self };
@@ -35,6 +38,9 @@ pub trait Column: Copy + Eq {
     /// The row with what the field of this column holds; junctions are below `room`.
     fn fill(self, row: Self::Row, room: u32, field: &[u8]) -> Result<Self::Row, Refusal>
         ensures { result ≡ filled room row self field.now };
+
+    // `==` holds of these columns and no others
+    ghost equal_when_the_same: { (c d : Self) → Self.eq c d ≡ same c d };
 }
 
 // Whether each of `all` stands among the columns.
@@ -46,7 +52,7 @@ fn are_all_among<C: Column>(all: &[C], columns: &[C]) -> bool
 
 /// The columns in the order of the names line, which has the name of each of `all` once.
 pub fn read_names<C: Column, const N: usize>(all: [C; N], line: &[u8]) -> Result<[C; N], LineFault>
-    ensures { result ≡ names_line C.eq C.Column.named all (pieces 32 line.now) }
+    ensures { result ≡ names_line C.Column.same C.Column.named all (pieces 32 line.now) }
 {
     let wrong = LineFault::WholeLine(Refusal::WrongNames);
     if !is_parted(line, N) {

@@ -1,7 +1,8 @@
 //! A query file, line by line, into a list of queries.
 ghost use Rattle.std.specs.Prelude.{◌≡◌, vec_items};
+ghost use Rattle.std.proofs.Common.{rules};
 ghost use Rattle.files.specs.Files.{ReadAs};
-ghost use Rattle.files.specs.Queries.{query_named, blank_query, query_filled, query_list, with_value};
+ghost use Rattle.files.specs.Queries.{query_same, query_named, blank_query, query_filled, query_list, with_value};
 
 use crate::columns::Column;
 use crate::fault::{FileName, ReadFault};
@@ -49,7 +50,11 @@ fn with_value(mut question: Question, column: QueryColumn, value: u32) -> Questi
 impl Column for QueryColumn {
     type Row = Question;
 
+    ghost same = { query_same };
+
     ghost named = { query_named };
+
+    ghost equal_when_the_same = { Prim.search rules };
 
     ghost blank = { blank_query };
 

@@ -1,6 +1,7 @@
 //! A road line: its columns by name, and the values in them.
 ghost use Rattle.std.specs.Prelude.{◌≡◌};
-ghost use Rattle.files.specs.Roads.{road_named, junction, seconds, watt_hours, blank_road, road_filled};
+ghost use Rattle.std.proofs.Common.{rules};
+ghost use Rattle.files.specs.Roads.{road_same, road_named, junction, seconds, watt_hours, blank_road, road_filled};
 
 use crate::columns::Column;
 use crate::values::{read_signed_value, read_value};
@@ -57,7 +58,11 @@ fn read_watt_hours(field: &[u8]) -> Result<i32, Refusal>
 impl Column for RoadColumn {
     type Row = RoadLine;
 
+    ghost same = { road_same };
+
     ghost named = { road_named };
+
+    ghost equal_when_the_same = { Prim.search rules };
 
     ghost blank = { blank_road };
 

@@ -18,8 +18,8 @@ pub(crate) fn read_columns<C: Column, const N: usize>(
 ) -> Result<[C; N], FileFault>
     requires { lines.old.taken ≡ 0 }
     ensures names_or_fault { MatchResult result
-        (λ columns. names_read lines.old.file (λ p. names_line C.eq C.Column.named all (pieces 32 p)) (lines_left lines.old) ≡ Ok (columns, lines_left lines.new))
-        (λ fault. names_read lines.old.file (λ p. names_line C.eq C.Column.named all (pieces 32 p)) (lines_left lines.old) ≡ Err fault) }
+        (λ columns. names_read lines.old.file (λ p. names_line C.Column.same C.Column.named all (pieces 32 p)) (lines_left lines.old) ≡ Ok (columns, lines_left lines.new))
+        (λ fault. names_read lines.old.file (λ p. names_line C.Column.same C.Column.named all (pieces 32 p)) (lines_left lines.old) ≡ Err fault) }
     ensures one_line_taken { IfOk result (λ _. lines.new.taken ≡ 1) }
     ensures file_kept { lines.new.file ≡ lines.old.file }
 {

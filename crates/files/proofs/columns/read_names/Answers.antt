@@ -17,8 +17,8 @@ returns-then-not-are_all_among g c =
     let t : true ≡ parted g.row.N (pieces 32 c.args.line.now) = c.if-not-is_parted.ensures in
     let all = take_all k columns (omega arith) in
     let cs = c.loop-column.invariant.2 ∙ none_left g.C.Column.named _ (fields_left c.loop-column.fields) (omega arith) ∙ ap Ok all in
-    let no : false ≡ all_among g.C.PartialEq.eq c.args.all columns = c.if-not-are_all_among.ensures in
-    sym (whole_line g.C.Column.named g.C.PartialEq.eq c.args.all _ _ (t ∙ ap (λ n. parted n (pieces 32 c.args.line.now)) (sym long)) cs
+    let no : false ≡ all_among g.C.Column.same c.args.all columns = c.if-not-are_all_among.ensures ∙ (λ i. all_among (λ d e. g.met.C.Column.equal_when_the_same d e i) c.args.all columns) in
+    sym (whole_line g.C.Column.named g.C.Column.same c.args.all _ _ (t ∙ ap (λ n. parted n (pieces 32 c.args.line.now)) (sym long)) cs
     ∙ ap (λ b. cond b (Ok columns) (Err (WholeLine WrongNames))) (sym no))
 
 pub returns : goal.returns
@@ -29,6 +29,6 @@ returns g c =
     let t : true ≡ parted g.row.N (pieces 32 c.args.line.now) = c.if-not-is_parted.ensures in
     let all = take_all k columns (omega arith) in
     let cs = c.loop-column.invariant.2 ∙ none_left g.C.Column.named _ (fields_left c.loop-column.fields) (omega arith) ∙ ap Ok all in
-    let yes' : true ≡ all_among g.C.PartialEq.eq c.args.all columns = c.if-not-are_all_among.ensures in
-    sym (whole_line g.C.Column.named g.C.PartialEq.eq c.args.all _ _ (t ∙ ap (λ n. parted n (pieces 32 c.args.line.now)) (sym long)) cs
+    let yes' : true ≡ all_among g.C.Column.same c.args.all columns = c.if-not-are_all_among.ensures ∙ (λ i. all_among (λ d e. g.met.C.Column.equal_when_the_same d e i) c.args.all columns) in
+    sym (whole_line g.C.Column.named g.C.Column.same c.args.all _ _ (t ∙ ap (λ n. parted n (pieces 32 c.args.line.now)) (sym long)) cs
     ∙ ap (λ b. cond b (Ok columns) (Err (WholeLine WrongNames))) (sym yes'))
