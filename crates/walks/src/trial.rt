@@ -1,11 +1,13 @@
 //! A walk tried on a map: driven from its start up to the first road that cannot be driven.
-ghost use Rattle.std.specs.Prelude.{◌≡◌, length, IfOk};
+ghost use Rattle.std.specs.Prelude.{◌≡◌, length, nat_lt, IfOk};
+ghost use Rattle.std.specs.List.{list_any};
+ghost use Rattle.std.specs.Result.{result_err};
 ghost use Rattle.walks.specs.declared.trial.NoTrial.TheVariants.{Refused as NotTaken};
-ghost use Rattle.maps.specs.FirstFailure.{first_failure};
 ghost use Rattle.maps.specs.Heater.{heated_rows};
 ghost use Rattle.loads.specs.Charge.{charge as charge_of, charges};
-ghost use Rattle.walks.specs.Trial.{step_by_place, legs_driven, ending_of, at_the_start, place_fault, trial_refusal, charged_trial_refusal, Tried};
+ghost use Rattle.walks.specs.Trial.{legs_driven, ending_of, at_the_start, trial_refusal, charged_trial_refusal, Tried};
 
+use crate::step::step;
 use front::arrival::Arrival;
 use front::leg::Leg;
 use loads::Kind;
@@ -15,12 +17,38 @@ use maps::heater::{Heater, Power};
 use maps::road::Road;
 use refusals::refusal::Refusal;
 use std::alloc::{AllocError, Global};
+use thiserror::Error;
 
 /// The latest deadline that a walk may have, in seconds.
 pub const LATEST_DEADLINE: u32 = 999_999;
 
-/// How a trial ended: at the walk's end, or before the road that could not be driven, and why.
+/// A walk to try: from a junction on with a load, by places of the junctions passed, within a deadline.
 #[derive(Clone, Copy)]
+pub struct Walk<'a, L> {
+    pub start: u32,
+    pub load: L,
+    /// In seconds, at most 999,999.
+    pub deadline: u32,
+    /// From 0 to 11 each.
+    pub places: &'a [u32],
+}
+
+/// A walk of a van with a battery and a heater to try, with the latest deadline.
+#[derive(Clone, Copy)]
+pub struct ChargedWalk<'a> {
+    /// The heater's power, at most 6,000.
+    pub watts: u32,
+    /// The battery's capacity in watt-hours, from 1 to 100,000.
+    pub capacity: u32,
+    pub start: u32,
+    /// The charge at the start in watt-hours, at most the capacity.
+    pub charge: u32,
+    /// From 0 to 11 each.
+    pub places: &'a [u32],
+}
+
+/// How a trial ended: at the walk's end, or before the road that could not be driven, and why.
+#[derive(Clone, Copy, PartialEq, Eq, Debug)]
 pub enum Ending {
     Arrived,
     EmptyPlace,
@@ -36,12 +64,15 @@ pub struct Trial<L> {
 }
 
 /// Why no trial was made.
-#[derive(Clone, Copy)]
+#[derive(Clone, Copy, PartialEq, Eq, Debug, Error)]
 pub enum NoTrial {
+    #[error("{0}")]
     Refused(Refusal),
+    #[error("There is no memory left for the legs.")]
     OutOfMemory,
 }
 
+// Written out, since a conversion that is derived promises nothing of what it makes.
 impl From<Refusal> for NoTrial {
     ghost from_gives = { λ f n. n ≡ NotTaken f };
 
@@ -50,67 +81,30 @@ impl From<Refusal> for NoTrial {
     }
 }
 
-// Where a van gets by the road at a place, or why it cannot be driven.
-fn step<M: Map, K: Kind>(
-    map: &M,
-    kind: &K,
-    deadline: u32,
-    from: Arrival<K::Load>,
-    place: u32,
-) -> Result<Arrival<K::Load>, Ending>
-    ensures { result ≡ step_by_place (M.Map.rows map.now) (K.Kind.meaning kind.now) deadline from place }
+// Whether a place is one that no junction has.
+fn any_above_eleven(places: &[u32]) -> bool
+    ensures { result ≡ list_any (nat_lt 11) places.now }
 {
-    let road = match map.place(from.junction, place) {
-        Ok(Some(road)) => road,
-        Ok(None) => return Err(Ending::EmptyPlace),
-        Err(_) => return Err(Ending::EmptyPlace),
-    };
-    let Some(load) = kind.drive(from.load, road) else {
-        return Err(Ending::CannotDrive(road));
-    };
-    if from.time > deadline || road.seconds > deadline - from.time {
-        return Err(Ending::PastDeadline(road));
-    }
-    Ok(Arrival {
-        junction: road.head,
-        time: from.time + road.seconds,
-        load,
-    })
+    places.iter().any(|place| *place > 11)
 }
 
-// The first place of a walk that no junction has.
-fn first_place_fault(places: &[u32]) -> Option<Refusal>
-    ensures { result ≡ first_failure (place_fault places.now) (length places.now) }
+// The first check that a walk fails: its start, its load, its deadline, then its places.
+fn check<M: Map, K: Kind>(map: &M, kind: &K, walk: &Walk<'_, K::Load>) -> Result<(), Refusal>
+    ensures { result_err result ≡ trial_refusal (length (M.Map.rows map.now)) (K.Kind.meaning kind.now) walk.now.start walk.now.load walk.now.deadline walk.now.places.now }
 {
-    for place in places {
-        if *place > 11 {
-            return Some(Refusal::PlaceAboveEleven);
-        }
+    if walk.start >= map.junctions() {
+        return Err(Refusal::StartOffMap);
     }
-    None
-}
-
-// The first check that a trial fails.
-fn check<M: Map, K: Kind>(
-    map: &M,
-    kind: &K,
-    start: u32,
-    load: K::Load,
-    deadline: u32,
-    places: &[u32],
-) -> Option<Refusal>
-    ensures { result ≡ trial_refusal (length (M.Map.rows map.now)) (K.Kind.meaning kind.now) start load deadline places.now }
-{
-    if start >= map.junctions() {
-        return Some(Refusal::StartOffMap);
+    if !kind.admits(walk.load) {
+        return Err(Refusal::StartLoadNotAdmitted);
     }
-    if !kind.admits(load) {
-        return Some(Refusal::StartLoadNotAdmitted);
+    if walk.deadline > LATEST_DEADLINE {
+        return Err(Refusal::DeadlineTooLate);
     }
-    if deadline > LATEST_DEADLINE {
-        return Some(Refusal::DeadlineTooLate);
+    if any_above_eleven(walk.places) {
+        return Err(Refusal::PlaceAboveEleven);
     }
-    first_place_fault(places)
+    Ok(())
 }
 
 // The walk driven from its start, up to the first road that cannot be driven.
@@ -118,21 +112,18 @@ fn drive_places<M: Map, K: Kind>(
     heap: Global,
     map: &M,
     kind: &K,
-    start: u32,
-    load: K::Load,
-    deadline: u32,
-    places: &[u32],
+    walk: &Walk<'_, K::Load>,
 ) -> Result<Trial<K::Load>, AllocError>
-    ensures { IfOk result (λ t. (t.legs.items ≡ legs_driven (M.Map.rows map.now) (K.Kind.meaning kind.now) deadline (at_the_start start load) places.now) × (t.ending ≡ ending_of (M.Map.rows map.now) (K.Kind.meaning kind.now) deadline (at_the_start start load) places.now)) }
+    ensures { IfOk result (λ t. (t.legs.items ≡ legs_driven (M.Map.rows map.now) (K.Kind.meaning kind.now) walk.now.deadline (at_the_start walk.now.start walk.now.load) walk.now.places.now) × (t.ending ≡ ending_of (M.Map.rows map.now) (K.Kind.meaning kind.now) walk.now.deadline (at_the_start walk.now.start walk.now.load) walk.now.places.now)) }
 {
     let mut legs = Vec::new(heap);
     let mut van = Arrival {
-        junction: start,
+        junction: walk.start,
         time: 0,
-        load,
+        load: walk.load,
     };
-    for place in places {
-        match step(map, kind, deadline, van, *place) {
+    for place in walk.places {
+        match step(map, kind, walk.deadline, van, *place) {
             Ok(next) => {
                 legs.push(Leg {
                     junction: van.junction,
@@ -151,30 +142,21 @@ fn drive_places<M: Map, K: Kind>(
     })
 }
 
-/// Tries a walk with this load from a junction on, by these places, and tells the legs driven and
-/// how it ended. Refuses a start off the map, a load that is not admitted, a deadline above
-/// 999,999 and a place above 11, in this order.
+/// Tries a walk, and tells the legs driven and how it ended. Refuses a start off the map, a load
+/// that is not admitted, a deadline above 999,999 and a place above 11, in this order.
 pub fn try_walk<M: Map, K: Kind>(
     heap: Global,
     map: &M,
     kind: &K,
-    start: u32,
-    load: K::Load,
-    deadline: u32,
-    places: &[u32],
+    walk: Walk<'_, K::Load>,
 ) -> Result<Trial<K::Load>, NoTrial>
     ensures legs_up_to_the_first_road_that_cannot_be_driven { Tried
-        (trial_refusal (length (M.Map.rows map.now)) (K.Kind.meaning kind.now) start load deadline places.now)
-        (legs_driven (M.Map.rows map.now) (K.Kind.meaning kind.now) deadline (at_the_start start load) places.now)
-        (ending_of (M.Map.rows map.now) (K.Kind.meaning kind.now) deadline (at_the_start start load) places.now) result }
+        (trial_refusal (length (M.Map.rows map.now)) (K.Kind.meaning kind.now) walk.entry.start walk.entry.load walk.entry.deadline walk.entry.places.now)
+        (legs_driven (M.Map.rows map.now) (K.Kind.meaning kind.now) walk.entry.deadline (at_the_start walk.entry.start walk.entry.load) walk.entry.places.now)
+        (ending_of (M.Map.rows map.now) (K.Kind.meaning kind.now) walk.entry.deadline (at_the_start walk.entry.start walk.entry.load) walk.entry.places.now) result }
 {
-    if let Some(refusal) = check(map, kind, start, load, deadline, places) {
-        return Err(NoTrial::Refused(refusal));
-    }
-    match drive_places(heap, map, kind, start, load, deadline, places) {
-        Ok(trial) => Ok(trial),
-        Err(_) => Err(NoTrial::OutOfMemory),
-    }
+    check(map, kind, &walk)?;
+    drive_places(heap, map, kind, &walk).map_err(|_| NoTrial::OutOfMemory)
 }
 
 /// Tries a walk of a van with this battery and this charge, its heater on at so many watts, with
@@ -182,27 +164,21 @@ pub fn try_walk<M: Map, K: Kind>(
 pub fn try_charged_walk<M: Map + Drop>(
     heap: Global,
     map: M,
-    watts: u32,
-    capacity: u32,
-    start: u32,
-    level: u32,
-    places: &[u32],
+    walk: ChargedWalk<'_>,
 ) -> Result<Trial<Charge>, NoTrial>
     ensures legs_of_the_charge_over_the_heated_map { Tried
-        (charged_trial_refusal (length (M.Map.rows map)) watts capacity start level places.now)
-        (legs_driven (heated_rows watts (M.Map.rows map)) (charges capacity) 999999 (at_the_start start (charge_of level)) places.now)
-        (ending_of (heated_rows watts (M.Map.rows map)) (charges capacity) 999999 (at_the_start start (charge_of level)) places.now) result }
+        (charged_trial_refusal (length (M.Map.rows map)) walk.entry.watts walk.entry.capacity walk.entry.start walk.entry.charge walk.entry.places.now)
+        (legs_driven (heated_rows walk.entry.watts (M.Map.rows map)) (charges walk.entry.capacity) 999999 (at_the_start walk.entry.start (charge_of walk.entry.charge)) walk.entry.places.now)
+        (ending_of (heated_rows walk.entry.watts (M.Map.rows map)) (charges walk.entry.capacity) 999999 (at_the_start walk.entry.start (charge_of walk.entry.charge)) walk.entry.places.now) result }
 {
-    let power = Power::new(watts)?;
-    let kind = ChargeKind::new(capacity)?;
+    let power = Power::new(walk.watts)?;
+    let kind = ChargeKind::new(walk.capacity)?;
     let heated = Heater::over(map, power);
-    try_walk(
-        heap,
-        &heated,
-        &kind,
-        start,
-        Charge { level },
-        LATEST_DEADLINE,
-        places,
-    )
+    let latest = Walk {
+        start: walk.start,
+        load: Charge { level: walk.charge },
+        deadline: LATEST_DEADLINE,
+        places: walk.places,
+    };
+    try_walk(heap, &heated, &kind, latest)
 }
