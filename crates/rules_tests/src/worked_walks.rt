@@ -1,12 +1,13 @@
 //! Walks on a small map: one that arrives, and those that a wrong rule would get wrong.
-use maps::table::TableMap;
+use maps::table::{TableMap, Tables};
 use std::alloc::Global;
-use walks::trial::{Ending, NoTrial, try_charged_walk};
+use walks::trial::{ChargedWalk, Ending, NoTrial, try_charged_walk};
 
 // Five junctions in a row: 0 to 1 draws 600, 1 to 2 draws -500, 2 to 3 draws -400, 3 to 4 draws 100; 60 s each.
 const COUNTS: [u32; 5] = [1, 1, 1, 1, 0];
 
-// How a walk along the row ends: the roads driven, the last charge, and a word for the ending.
+// How a walk along the row ends: the roads driven, the last charge, and a word for the ending; or the
+// number that refuses it, and none where memory runs out.
 fn ends(
     heap: Global,
     watts: u32,
@@ -14,9 +15,9 @@ fn ends(
     start: u32,
     charge: u32,
     places: &[u32],
-) -> (usize, u32, &'static str) {
-    let mut heads = [0u32; 60];
-    let mut draws = [0i32; 60];
+) -> Result<(usize, u32, &'static str), Option<u8>> {
+    let mut heads = [0; 60];
+    let mut draws = [0; 60];
     heads[0] = 1;
     heads[12] = 2;
     heads[24] = 3;
@@ -25,26 +26,33 @@ fn ends(
     draws[12] = -500;
     draws[24] = -400;
     draws[36] = 100;
-    let times = [60u32; 60];
+    let tables = Tables {
+        counts: &COUNTS,
+        heads: &heads,
+        times: &[60; 60],
+        draws: &draws,
+    };
     let mut map = TableMap::empty();
-    let _ = map.load(&COUNTS, &heads, &times, &draws);
-    match try_charged_walk(heap, map, watts, capacity, start, charge, places) {
-        Err(NoTrial::Refused(refusal)) => (refusal.number() as usize, 0, "refused"),
-        Err(NoTrial::OutOfMemory) => (0, 0, "out of memory"),
-        Ok(trial) => {
-            let left = match trial.legs.last() {
-                Some(leg) => leg.load.level,
-                None => charge,
-            };
-            let word = match trial.ending {
-                Ending::Arrived => "arrived",
-                Ending::EmptyPlace => "empty place",
-                Ending::CannotDrive(_) => "cannot drive",
-                Ending::PastDeadline(_) => "past deadline",
-            };
-            (trial.legs.len(), left, word)
-        }
-    }
+    let _ = map.load(tables);
+    let walk = ChargedWalk {
+        watts,
+        capacity,
+        start,
+        charge,
+        places,
+    };
+    let trial = try_charged_walk(heap, map, walk).map_err(|why| match why {
+        NoTrial::Refused(refusal) => Some(refusal.number()),
+        NoTrial::OutOfMemory => None,
+    })?;
+    let left = trial.legs.last().map_or(charge, |leg| leg.load.level);
+    let word = match trial.ending {
+        Ending::Arrived => "arrived",
+        Ending::EmptyPlace => "empty place",
+        Ending::CannotDrive(_) => "cannot drive",
+        Ending::PastDeadline(_) => "past deadline",
+    };
+    Ok((trial.legs.len(), left, word))
 }
 
 #[test]
@@ -53,27 +61,36 @@ fn a_van_is_stranded_where_its_charge_is_short(rt: HostRuntime) {
     // the draws' sum, 100, is below the charge; the first road is not
     assert_eq!(rt;
         ends(heap, 0, 1_000, 0, 500, &[0, 0]),
-        (0, 500, "cannot drive")
+        Ok((0, 500, "cannot drive"))
     );
     assert_eq!(rt;
         ends(heap, 0, 1_000, 0, 599, &[0]),
-        (0, 599, "cannot drive")
+        Ok((0, 599, "cannot drive"))
     );
-    assert_eq!(rt; ends(heap, 0, 1_000, 0, 600, &[0, 0]), (2, 500, "arrived"));
+    assert_eq!(rt;
+        ends(heap, 0, 1_000, 0, 600, &[0, 0]),
+        Ok((2, 500, "arrived"))
+    );
     assert_eq!(rt;
         ends(heap, 0, 1_000, 0, 600, &[0, 1]),
-        (1, 0, "empty place")
+        Ok((1, 0, "empty place"))
     );
 }
 
 #[test]
 fn a_nearly_full_battery_loses_what_a_descent_would_give(rt: HostRuntime) {
     let heap = rt.alloc();
-    assert_eq!(rt; ends(heap, 0, 1_000, 2, 900, &[0]), (1, 1_000, "arrived"));
-    assert_eq!(rt; ends(heap, 0, 1_000, 2, 900, &[0, 0]), (2, 900, "arrived"));
+    assert_eq!(rt;
+        ends(heap, 0, 1_000, 2, 900, &[0]),
+        Ok((1, 1_000, "arrived"))
+    );
+    assert_eq!(rt;
+        ends(heap, 0, 1_000, 2, 900, &[0, 0]),
+        Ok((2, 900, "arrived"))
+    );
     assert_eq!(rt;
         ends(heap, 0, 1_000, 1, 1_000, &[0, 0, 0]),
-        (3, 900, "arrived")
+        Ok((3, 900, "arrived"))
     );
 }
 
@@ -82,25 +99,28 @@ fn the_heater_draws_its_part_rounded_up(rt: HostRuntime) {
     let heap = rt.alloc();
     assert_eq!(rt;
         ends(heap, 1_000, 1_000, 3, 1_000, &[0]),
-        (1, 883, "arrived")
+        Ok((1, 883, "arrived"))
     );
-    assert_eq!(rt; ends(heap, 1_000, 1_000, 3, 117, &[0]), (1, 0, "arrived"));
+    assert_eq!(rt;
+        ends(heap, 1_000, 1_000, 3, 117, &[0]),
+        Ok((1, 0, "arrived"))
+    );
     assert_eq!(rt;
         ends(heap, 1_000, 1_000, 3, 116, &[0]),
-        (0, 116, "cannot drive")
+        Ok((0, 116, "cannot drive"))
     );
 }
 
 #[test]
 fn trials_are_refused_in_order(rt: HostRuntime) {
     let heap = rt.alloc();
-    assert_eq!(rt; ends(heap, 6_001, 0, 9, 9, &[12]), (11, 0, "refused"));
-    assert_eq!(rt; ends(heap, 6_000, 0, 9, 9, &[12]), (8, 0, "refused"));
-    assert_eq!(rt; ends(heap, 6_000, 8, 9, 9, &[12]), (1, 0, "refused"));
-    assert_eq!(rt; ends(heap, 6_000, 8, 4, 9, &[12]), (3, 0, "refused"));
-    assert_eq!(rt; ends(heap, 6_000, 9, 4, 9, &[11, 12]), (10, 0, "refused"));
+    assert_eq!(rt; ends(heap, 6_001, 0, 9, 9, &[12]), Err(Some(11)));
+    assert_eq!(rt; ends(heap, 6_000, 0, 9, 9, &[12]), Err(Some(8)));
+    assert_eq!(rt; ends(heap, 6_000, 8, 9, 9, &[12]), Err(Some(1)));
+    assert_eq!(rt; ends(heap, 6_000, 8, 4, 9, &[12]), Err(Some(3)));
+    assert_eq!(rt; ends(heap, 6_000, 9, 4, 9, &[11, 12]), Err(Some(10)));
     assert_eq!(rt;
         ends(heap, 6_000, 9, 4, 9, &[11, 11]),
-        (0, 9, "empty place")
+        Ok((0, 9, "empty place"))
     );
 }
