@@ -1,10 +1,11 @@
 //! Fills tables road by road.
-ghost use Rattle.std.specs.Prelude.{◌≡◌, ◌<◌, ◌≤◌, IfOk, vec_len};
+ghost use Rattle.std.specs.Prelude.{◌≡◌, ◌<◌, ◌≤◌, IfOk, vec_len, vec_items};
 ghost use Rattle.files.specs.Tables.{tables, empty_tables, fits_in, with_road, trimmed};
 
 use crate::fault::LineFault;
 use crate::roads::RoadLine;
 use crate::tables::RoadTables;
+use maps::table::Tables;
 use refusals::refusal::Refusal;
 use std::alloc::{AllocError, Global};
 
@@ -60,5 +61,20 @@ impl RoadTables {
         self.times.truncate(12 * rows);
         self.draws.truncate(12 * rows);
         self
+    }
+
+    /// The tables as a map takes them.
+    pub fn lent(&self) -> Tables<'_>
+        ensures counts_lent { result.counts.now ≡ vec_items self.now.counts }
+        ensures heads_lent { result.heads.now ≡ vec_items self.now.heads }
+        ensures times_lent { result.times.now ≡ vec_items self.now.times }
+        ensures draws_lent { result.draws.now ≡ vec_items self.now.draws }
+    {
+        Tables {
+            counts: &self.counts,
+            heads: &self.heads,
+            times: &self.times,
+            draws: &self.draws,
+        }
     }
 }
