@@ -11,14 +11,6 @@ use std::io::{ErrorKind, Read};
 /// The most bytes that a file may have.
 const MOST: u64 = 32_768;
 
-// What a file is called in the working directory.
-fn name_of(file: FileName) -> &'static str {
-    match file {
-        FileName::Roads => "roads.txt",
-        FileName::Queries => "queries.txt",
-    }
-}
-
 // A file's bytes, at most one more than it may have.
 fn read_bytes(rt: &HostRuntime, name: &str) -> io::Result<Vec<u8>> {
     let mut bytes = Vec::new(rt.alloc());
@@ -43,19 +35,10 @@ fn unreadable(file: FileName) -> FileFault
 pub fn read_file_if_there(rt: &HostRuntime, file: FileName) -> Result<Option<Vec<u8>>, FileFault>
     ensures bytes_within_the_most_or_unreadable { ReadWholeIfThere vec_len file result }
 {
-    match read_bytes(rt, name_of(file)) {
-        Ok(bytes) => {
-            if bytes.len() as u64 > MOST {
-                return Err(unreadable(file));
-            }
-            Ok(Some(bytes))
-        }
-        Err(error) => {
-            if error.kind() == ErrorKind::NotFound {
-                return Ok(None);
-            }
-            Err(unreadable(file))
-        }
+    match read_bytes(rt, file.name()) {
+        Ok(bytes) if bytes.len() as u64 <= MOST => Ok(Some(bytes)),
+        Err(error) if error.kind() == ErrorKind::NotFound => Ok(None),
+        _ => Err(unreadable(file)),
     }
 }
 
@@ -63,20 +46,11 @@ pub fn read_file_if_there(rt: &HostRuntime, file: FileName) -> Result<Option<Vec
 pub fn read_file(rt: &HostRuntime, file: FileName) -> Result<Vec<u8>, FileFault>
     ensures bytes_within_the_most_or_unreadable { ReadWhole vec_len file result }
 {
-    match read_file_if_there(rt, file)? {
-        Some(bytes) => Ok(bytes),
-        None => Err(unreadable(file)),
-    }
+    read_file_if_there(rt, file)?.ok_or_else(|| unreadable(file))
 }
 
 /// Writes a fault: a line of names, and then the file, the line, the field and the code.
 pub fn print_fault(rt: &HostRuntime, fault: FileFault) -> io::Result<()> {
     println!(rt; "file line field code")?;
-    println!(rt;
-        "{} {} {} {}",
-        name_of(fault.file),
-        fault.line,
-        fault.field,
-        fault.refusal.number()
-    )
+    println!(rt; "{fault}")
 }
