@@ -1,84 +1,60 @@
 //! Query files with faults, and good ones.
-use files::fault::{FileFault, FileName, ReadFault};
-use files::queries::{Query, read_queries};
+use crate::faults::{Place, expect_fault};
+use files::fault::FileName;
+use files::queries::{Question, read_queries};
 use std::test::Fail;
 
-// A text, and the line, the field and the number of its fault (0: none).
-type Case = (&'static [u8], usize, usize, u8);
+// A text, and its fault if it has one.
+type Case = (&'static [u8], Option<Place>);
 
 const CASES: [Case; 12] = [
-    (b"", 1, 0, 20),
-    (b"start goal charge capacity deadline heater", 1, 0, 25),
-    (b"start goal charge capacity deadline\n", 1, 0, 20),
-    (b"start goal charge capacity deadline start\n", 1, 0, 20),
-    (b"from to seconds watthours\n", 1, 0, 20),
-    (b"start goal charge capacity deadline heater\n", 0, 0, 0),
+    (b"", Some((1, 0, 20))),
+    (
+        b"start goal charge capacity deadline heater",
+        Some((1, 0, 25)),
+    ),
+    (b"start goal charge capacity deadline\n", Some((1, 0, 20))),
+    (
+        b"start goal charge capacity deadline start\n",
+        Some((1, 0, 20)),
+    ),
+    (b"from to seconds watthours\n", Some((1, 0, 20))),
+    (b"start goal charge capacity deadline heater\n", None),
     (
         b"start goal charge capacity deadline heater\n999999 999999 999999 999999 999999 999999\n",
-        0,
-        0,
-        0,
+        None,
     ),
     (
         b"start goal charge capacity deadline heater\n0 3 1 1 9\n",
-        2,
-        0,
-        21,
+        Some((2, 0, 21)),
     ),
     (
         b"start goal charge capacity deadline heater\n0 3 1 1 9 0\n\n",
-        3,
-        0,
-        21,
+        Some((3, 0, 21)),
     ),
     (
         b"start goal charge capacity deadline heater\n0 3 -1 1 9 0\n",
-        2,
-        3,
-        22,
+        Some((2, 3, 22)),
     ),
     (
         b"start goal charge capacity deadline heater\n0 3 1 1 9 0\n0 3 1 1 9 00\n",
-        3,
-        6,
-        22,
+        Some((3, 6, 22)),
     ),
     (
         b"start goal charge capacity deadline heater\n0 3 1 1 9 0\n0 3 1 1 9 0",
-        3,
-        0,
-        25,
+        Some((3, 0, 25)),
     ),
 ];
 
-// The line, the field and the number of a query file's fault, all 0 where it has none.
-fn fault_of(read: Result<Vec<Query>, ReadFault>) -> (usize, usize, u8) {
-    match read {
-        Ok(_) => (0, 0, 0),
-        Err(ReadFault::NoMemory) => (0, 0, 255),
-        Err(
-            ReadFault::InFile(
-                FileFault {
-                    file,
-                    line,
-                    field,
-                    refusal,
-                },
-            ),
-        ) => match file {
-            FileName::Queries => (line, field, refusal.number()),
-            FileName::Roads => (0, 0, 254),
-        },
-    }
-}
-
 #[test]
 fn the_first_fault_from_the_top_is_told(rt: HostRuntime) {
-    for (text, line, field, number) in CASES {
-        let (at, of, told) = fault_of(read_queries(rt.alloc(), text));
-        assert_eq!(rt; at, line);
-        assert_eq!(rt; of, field);
-        assert_eq!(rt; told, number);
+    for (text, fault) in CASES {
+        expect_fault(
+            &rt,
+            FileName::Queries,
+            read_queries(rt.alloc(), text),
+            fault,
+        );
     }
 }
 
@@ -90,7 +66,7 @@ const ORDERS: [&[u8]; 2] = [
 
 #[test]
 fn names_stand_in_any_order(rt: HostRuntime) -> Result<(), Fail> {
-    let expected = Query {
+    let expected = Question {
         start: 0,
         goal: 3,
         charge: 949,

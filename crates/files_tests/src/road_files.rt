@@ -1,10 +1,10 @@
 //! Road files with a fault in every place, and good ones.
-use files::fault::{FileFault, FileName, ReadFault};
+use crate::faults::{Place, expect_fault};
+use files::fault::FileName;
 use files::road_file::read_roads;
-use files::tables::RoadTables;
 use maps::Map;
 use maps::road::Road;
-use maps::table::TableMap;
+use maps::table::{TableMap, Tables};
 use std::alloc::{AllocError, Global};
 use std::process::Abort;
 use std::test::Fail;
@@ -71,44 +71,21 @@ const BAD_LINES: [BadLine; 26] = [
     (b"0 1 60 999999\n", 4, 13),
 ];
 
-// The line, the field and the number of a road file's fault, all 0 where it has none.
-fn fault_of(read: Result<RoadTables, ReadFault>) -> (usize, usize, u8) {
-    match read {
-        Ok(_) => (0, 0, 0),
-        Err(ReadFault::NoMemory) => (0, 0, 255),
-        Err(
-            ReadFault::InFile(
-                FileFault {
-                    file,
-                    line,
-                    field,
-                    refusal,
-                },
-            ),
-        ) => match file {
-            FileName::Roads => (line, field, refusal.number()),
-            FileName::Queries => (0, 0, 254),
-        },
-    }
-}
-
-fn found(
-    rt: &impl Abort,
-    read: Result<RoadTables, ReadFault>,
-    line: usize,
-    field: usize,
-    number: u8,
+// Asserts that a road file has the fault that is expected, or none.
+fn expect_road_fault(
+    rt: &(impl Abort + AllocGlobal),
+    text: &[u8],
+    room: u32,
+    expected: Option<Place>,
 ) {
-    let (at, of, told) = fault_of(read);
-    assert_eq!(rt; at, line);
-    assert_eq!(rt; of, field);
-    assert_eq!(rt; told, number);
+    let read = read_roads(rt.alloc(), text, room);
+    expect_fault(rt, FileName::Roads, read, expected);
 }
 
 #[test]
 fn the_first_fault_from_the_top_is_told(rt: HostRuntime) {
     for (text, line, field, number) in WHOLE_FILES {
-        found(&rt, read_roads(rt.alloc(), text, 256), line, field, number);
+        expect_road_fault(&rt, text, 256, Some((line, field, number)));
     }
 }
 
@@ -127,13 +104,7 @@ fn a_bad_line_is_told_as_first_middle_and_last(rt: HostRuntime) -> Result<(), Fa
     for (line, field, number) in BAD_LINES {
         for place in 0..3usize {
             let text = among_good(rt.alloc(), line, place)?;
-            found(
-                &rt,
-                read_roads(rt.alloc(), text.as_slice(), 256),
-                place + 2,
-                field,
-                number,
-            );
+            expect_road_fault(&rt, text.as_slice(), 256, Some((place + 2, field, number)));
         }
     }
     Ok(())
@@ -153,9 +124,9 @@ fn from_five(heap: Global, roads: usize) -> Result<Vec<u8>, AllocError> {
 #[test]
 fn twelve_roads_fit_and_a_thirteenth_does_not(rt: HostRuntime) -> Result<(), Fail> {
     let twelve = from_five(rt.alloc(), 12)?;
-    found(&rt, read_roads(rt.alloc(), twelve.as_slice(), 256), 0, 0, 0);
+    expect_road_fault(&rt, twelve.as_slice(), 256, None);
     let more = from_five(rt.alloc(), 14)?;
-    found(&rt, read_roads(rt.alloc(), more.as_slice(), 256), 15, 0, 24);
+    expect_road_fault(&rt, more.as_slice(), 256, Some((15, 0, 24)));
     Ok(())
 }
 
@@ -166,16 +137,11 @@ const ORDERS: [&[u8]; 2] = [
 ];
 
 // Whether the map of these tables has the roads of both files.
-fn holds_the_roads<'x>(
-    counts: &'x [u32],
-    heads: &'x [u32],
-    times: &'x [u32],
-    draws: &'x [i32],
-) -> bool {
-    let mut map = TableMap::empty();
-    let loaded = map.load(counts, heads, times, draws);
-    loaded.is_ok()
-        && map.junctions() == 4
+fn holds_the_roads(tables: Tables<'_>) -> bool {
+    let Ok(map) = TableMap::new(tables) else {
+        return false;
+    };
+    map.junctions() == 4
         && map.place(0, 1)
             == Ok(Some(Road {
                 head: 2,
@@ -191,14 +157,7 @@ fn roads_stand_at_their_places_whatever_the_order_of_names(rt: HostRuntime) -> R
         let Ok(tables) = read_roads(rt.alloc(), text, 256) else {
             return Err(Fail::new("a good road file was refused"));
         };
-        assert!(rt;
-            holds_the_roads(
-                tables.counts.as_slice(),
-                tables.heads.as_slice(),
-                tables.times.as_slice(),
-                tables.draws.as_slice(),
-            )
-        );
+        assert!(rt; holds_the_roads(tables.lent()));
     }
     Ok(())
 }
@@ -224,23 +183,17 @@ fn junctions_are_one_above_the_largest_named(rt: HostRuntime) -> Result<(), Fail
         assert_eq!(rt; tables.counts.len(), junctions as usize);
         assert_eq!(rt; tables.draws.len(), 12 * (junctions as usize));
     }
-    found(
+    expect_road_fault(
         &rt,
-        read_roads(rt.alloc(), b"from to seconds watthours\n0 0 1 0\n", 0),
-        2,
-        1,
-        23,
+        b"from to seconds watthours\n0 0 1 0\n",
+        0,
+        Some((2, 1, 23)),
     );
-    found(
+    expect_road_fault(
         &rt,
-        read_roads(
-            rt.alloc(),
-            b"from to seconds watthours\n9600 0 1 0\n",
-            u32::MAX,
-        ),
-        2,
-        1,
-        23,
+        b"from to seconds watthours\n9600 0 1 0\n",
+        u32::MAX,
+        Some((2, 1, 23)),
     );
     Ok(())
 }
