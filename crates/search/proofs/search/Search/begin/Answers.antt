@@ -1,5 +1,6 @@
 use Rattle.std.proofs.Common.{◌≡◌, length, Ok, sym, refl, arith, rules}
-use Rattle.std.proofs.lemmas.Grind.{common_steps}
+use Rattle.std.proofs.lemmas.Bool.{eq-eqb, ne_eqb, cond-true, cond-false}
+use Rattle.std.proofs.lemmas.Result.{err_from_is_err_and}
 use Rattle.promises.specs.declared.standing.Standing.TheVariants.{Paused, Arrived}
 use Rattle.promises.specs.Begin.{query}
 use Rattle.search.specs.SearchNumbers.{numbers}
@@ -8,7 +9,9 @@ use Rattle.search.proofs.Answering.{begin_keeps}
 use Rattle.search.proofs.search.Search.begin.Goals as goal
 
 pub returns-in_err-check_begin : goal.returns-in_err-check_begin
-returns-in_err-check_begin g c = begin_keeps _ _ _ _ _ (grind (arith, common_steps))
+returns-in_err-check_begin g c =
+    let p = err_from_is_err_and c.from_residual.result c.from_residual.ensures.1 in
+    rw (p.1, p.2) (begin_keeps _ _ _ _ _ (search rules))
 
 pub overflow_cast-self : goal.overflow_cast-self
 overflow_cast-self g c =
@@ -27,7 +30,7 @@ returns-then-trip g c =
     let empty : h₀.len ≡ 0 = omega (arith, c.over-heap.ensures.count_clamped_to_the_slice) in
     begin_keeps q _ (numbers c.args.self.now) _ (Ok (Arrived 0))
     (begun q (g.M.Map.sound c.args.map.now) (g.K.Kind.lawful c.args.kind.now) c.args.labels.now c.args.waiting.now c.in_ok-check_begin.ensures h₀ h empty c.push_roads.ensures.keeps_heap_order c.push_roads.ensures.grown _ _ c.junctions.result c.len.result c.junctions.ensures refl (sym c.len.ensures) (search rules) (search rules)
-    (Arrived 0) (search rules) (numbers c.args.self.now))
+    (Arrived 0) (sym (cond-true _ _ _ (eq-eqb _ _ c.if-trip.true))) (numbers c.args.self.now))
 
 pub returns : goal.returns
 returns g c =
@@ -36,4 +39,4 @@ returns g c =
     let empty : h₀.len ≡ 0 = omega (arith, c.over-heap.ensures.count_clamped_to_the_slice) in
     begin_keeps q _ (numbers c.args.self.now) _ (Ok Paused)
     (begun q (g.M.Map.sound c.args.map.now) (g.K.Kind.lawful c.args.kind.now) c.args.labels.now c.args.waiting.now c.in_ok-check_begin.ensures h₀ h empty c.push_roads.ensures.keeps_heap_order c.push_roads.ensures.grown _ _ c.junctions.result c.len.result c.junctions.ensures refl (sym c.len.ensures) (search rules) (search rules)
-    Paused (search rules) (numbers c.args.self.now))
+    Paused (sym (cond-false _ _ _ (ne_eqb _ _ c.if-trip.false))) (numbers c.args.self.now))
