@@ -25,6 +25,7 @@ TurnSays q a b ls (Some (Arrived n)) = (n ≡ a) × LabelAt ls a q.goal
 TurnSays q a b ls (Some Ended) = EveryUnbeatenListed q ls b
 TurnSays q a b ls (Some Full) = (b ≡ length ls) × SomeUnbeatenUnlisted q ls b
 
+-- how many labels a turn listed
 abbrev pub listed_by : Option Standing → ℕ
 listed_by None = 1
 listed_by (Some Paused) = 0

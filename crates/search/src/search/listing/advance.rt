@@ -129,6 +129,7 @@ impl Underway {
             return Some(Standing::Ended);
         };
         if self.listed == self.room {
+            // not refused: it left room behind
             let _ = heap.push(candidate);
             self.waiting = heap.len();
             return Some(Standing::Full);
