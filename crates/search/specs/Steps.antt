@@ -1,8 +1,9 @@
 -- What the small steps of a search do. Nothing on this page has to be believed: the promises do not speak of it.
-use Rattle.std.specs.Prelude.{◌≡◌, ℕ, ◌<◌, Bool, true, false, ◌&&◌, ◌⊎◌, List, ◌∷◌, Some, None, Ok, Err, Option, Result, ◌==◌, nat_le}
+use Rattle.std.specs.Prelude.{◌≡◌, ℕ, ◌<◌, Bool, true, false, cond, ◌&&◌, ◌⊎◌, List, ◌∷◌, Some, None, Ok, Err, Option, Result, ◌==◌, nat_le}
 use Rattle.std.specs.Option.{option_map}
 use Rattle.std.specs.List.{ContainsAt as Has, list_any}
 use Rattle.refusals.specs.declared.refusal.Refusal.{Refusal}
+use Rattle.refusals.specs.declared.refusal.Refusal.TheVariants.{NotBegun, NotAsBegun}
 use Rattle.maps.specs.declared.road.Road.{Road}
 use Rattle.maps.specs.Rows.{Rows, answered}
 use Rattle.loads.specs.Meaning.{Meaning}
@@ -10,6 +11,12 @@ use Rattle.front.specs.declared.arrival.Arrival.{Arrival}
 use Rattle.front.specs.declared.label.Label.{Label}
 use Rattle.front.specs.OneRoad.{arrival_over_road}
 use Rattle.promises.specs.declared.candidate.Candidate.{Candidate}
+use Rattle.search.specs.declared.search.Underway.{Underway}
+
+-- what a search keeps that has begun with so many labels
+abbrev pub begun_with : Option Underway → ℕ → Result Underway Refusal
+begun_with None n = Err NotBegun
+begun_with (Some r) n = cond (n == r.room) (Ok r) (Err NotAsBegun)
 
 -- whether label x serves a: it is at a's junction, no later, with a load as good
 abbrev pub label_serves : {L : Type 0} → Meaning L → Arrival L → Label L → Bool

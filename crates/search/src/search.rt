@@ -5,6 +5,8 @@ mod chart;
 mod listing;
 mod trace;
 
+use refusals::refusal::Refusal;
+
 /// A search. Its label table and its waiting table are lent to each call that needs them.
 #[derive(Drop)]
 pub struct Search {
@@ -25,4 +27,20 @@ struct Underway {
     listed: u32,
     waiting: usize,
     ghost sized: { (listed ≤ room) × (room ≤ 65535) × (waiting ≤ 12 * listed) × (12 * room ≤ width) },
+}
+
+impl Search {
+    ghost use Rattle.std.specs.Prelude.{◌≡◌};
+    ghost use Rattle.search.specs.Steps.{begun_with};
+
+    // What a search keeps that has begun with a label table of this length.
+    fn begun_with(&self, labels: usize) -> Result<Underway, Refusal>
+        ensures { result ≡ begun_with self.now.run labels }
+    {
+        let run = self.run.ok_or(Refusal::NotBegun)?;
+        if labels != run.room as usize {
+            return Err(Refusal::NotAsBegun);
+        }
+        Ok(run)
+    }
 }

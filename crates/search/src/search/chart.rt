@@ -119,12 +119,7 @@ impl Search {
         ensures promised { ChartPromise (charting kind.now.capacity.watt_hours labels.now rows.old rows.new result) (numbers self.now) }
         ensures every_run_with_this_call_keeps_the_law { (h : History Load) → Run h (numbers self.now) → Keeps ToldByCharts (chart_call (charting kind.now.capacity.watt_hours labels.now rows.old rows.new result) ∷ h) }
     {
-        let Some(run) = self.run else {
-            return Err(Refusal::NotBegun);
-        };
-        if labels.len() != run.room as usize {
-            return Err(Refusal::NotAsBegun);
-        }
+        let run = self.begun_with(labels.len())?;
         if !starts_plain(kind, labels) {
             return Err(Refusal::NotPlainProfile);
         }

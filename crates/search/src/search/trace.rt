@@ -79,12 +79,7 @@ impl Search {
         ensures promised { TracePromise label labels.now walk.old walk.new (numbers self.now) result }
         ensures every_run_with_this_call_keeps_the_law { (h : History L) → Run h (numbers self.now) → Keeps NothingToldOfCharts (trace_call label labels.now walk.old walk.new result ∷ h) }
     {
-        let Some(run) = self.run else {
-            return Err(Refusal::NotBegun);
-        };
-        if labels.len() != run.room as usize {
-            return Err(Refusal::NotAsBegun);
-        }
+        let run = self.begun_with(labels.len())?;
         if label >= run.listed {
             return Err(Refusal::LabelNotListed);
         }

@@ -1,13 +1,11 @@
-use Rattle.std.proofs.Common.{rules}
+use Rattle.std.proofs.Common.{arith, rules}
+use Rattle.std.proofs.lemmas.Grind.{common_steps}
 use Rattle.search.specs.SearchNumbers.{numbers}
 use Rattle.search.proofs.Answering.{trace_keeps, trace_too_short, trace_written}
 use Rattle.search.proofs.search.Search.trace.Goals as goal
 
-pub returns-in_default : goal.returns-in_default
-returns-in_default g c = trace_keeps _ _ _ _ _ _ (search rules)
-
-pub returns-then-labels-run : goal.returns-then-labels-run
-returns-then-labels-run g c = trace_keeps _ _ _ _ _ _ (search rules)
+pub returns-in_err-run : goal.returns-in_err-run
+returns-in_err-run g c = trace_keeps _ _ _ _ _ _ (grind (arith, common_steps))
 
 pub returns-then-label-run : goal.returns-then-label-run
 returns-then-label-run g c = trace_keeps _ _ _ _ _ _ (search rules)
