@@ -9,7 +9,7 @@ use front::arrival::Arrival;
 use front::label::Label;
 use loads::charge::Charge;
 use maps::Map;
-use maps::table::{TableMap, Tables};
+use maps::table::TableMap;
 use planner::answer::{Answer, Question, answer_question};
 use promises::candidate::Candidate;
 use refusals::refusal::Refusal;
@@ -64,14 +64,8 @@ pub fn answer_files(
 ) -> Result<Vec<Result<Answer, Refusal>>, ReadFault>
     ensures each_query_answered_or_the_first_fault { FilesAnswered roads.now queries.now result }
 {
-    let rows = read_roads(heap, roads, JUNCTIONS)?;
+    let tables = read_roads(heap, roads, JUNCTIONS)?;
     let questions = read_queries(heap, queries)?;
-    let tables = Tables {
-        counts: &rows.counts,
-        heads: &rows.heads,
-        times: &rows.times,
-        draws: &rows.draws,
-    };
-    let map = TableMap::new(tables).unwrap();
+    let map = TableMap::new(tables.lent()).unwrap();
     Ok(answer_all(heap, map, &questions)?)
 }
