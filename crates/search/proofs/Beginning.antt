@@ -69,7 +69,7 @@ module _ {L : Type 0} (q : Query L) (sound : Sound q.rows) (lawful : Laws q.kind
 
   ranks : (d : Candidate L) → Has [] d ⊎ ((k : ℕ) × (k < 12) × (offer q.rows q.kind q.deadline (departure q) 0 k ≡ Some d)) → d.rank ≡ q.kind.rank d.label.arrival.load
   ranks d (inl x) = absurd (has_none d x)
-  ranks d (inr (k, l, o)) = let (b, ld, p) = offer_leads q (departure q) 0 k l d o in subst (λ (y : Candidate L). y.rank ≡ q.kind.rank y.label.arrival.load) p refl
+  ranks d (inr (k, l, o)) = let (b, ld, p) = offer_leads q (departure q) 0 k d o in subst (λ (y : Candidate L). y.rank ≡ q.kind.rank y.label.arrival.load) p refl
 
   spread : Spreads q [] [] (first_label q) (labels_of (take w ws'))
   spread = spreads q [] valid 0 refl [] [] (take w ws') (first_label q) (λ d x. x) (λ d x. inr x) offered

@@ -1,13 +1,14 @@
 -- The search's tests, offers and order are those of the front.
-use Rattle.std.proofs.Common.{◌≡◌, ℕ, ◌<◌, ◌≤◌, true, false, eqb, leb, ◌⊎◌, List, [], ◌∷◌, ◌++◌, map, length, get_or, Some, None, Option, sym, ap, ◌∙◌, subst, inl, inr, true≢false, arith}
+use Rattle.std.proofs.Common.{◌≡◌, ℕ, ◌<◌, ◌+◌, Bool, true, false, cond, eqb, leb, ◌⊎◌, List, [], ◌∷◌, ◌++◌, map, length, Some, None, Ok, Err, Option, refl, sym, ap, ◌∙◌, subst, inl, inr, true≢false, arith}
 use lib.ListN.{length-map}
 use Rattle.std.specs.Option.{option_map}
+use Rattle.std.specs.Result.{result_ok}
 use Rattle.std.specs.List.{ContainsAt as Has}
 use Rattle.std.proofs.ByRecursion.{all-has}
-use Rattle.std.proofs.lemmas.List.{get_or-map, get_or_past, get_or_default}
+use Rattle.std.proofs.lemmas.List.{get_or-map, get_or_default}
 use Rattle.std.proofs.lemmas.List.Folds.{Any-from_list_any, list_any_at}
 use Rattle.std.proofs.lemmas.Bool.Decides.{nat_tests}
-use Rattle.std.proofs.lemmas.Bool.{leb-true, le-leb, eqb-true, eq-eqb, lt-ltb, le-ltb, and_parts, and_from, cond-true, cond-false, cases_lt}
+use Rattle.std.proofs.lemmas.Bool.{leb-true, le-leb, eqb-true, eq-eqb, and_parts, and_from}
 use Rattle.maps.specs.declared.road.Road.{Road}
 use Rattle.maps.specs.Rows.{Rows, at}
 use Rattle.loads.specs.Meaning.{Meaning}
@@ -15,15 +16,17 @@ use Rattle.loads.specs.Picked.{from_mapped}
 use Rattle.front.specs.declared.arrival.Arrival.{Arrival}
 use Rattle.front.specs.declared.label.Label.{Label}
 use Rattle.front.specs.Walks.{Query, Valid, Leads}
-use Rattle.front.specs.OneRoad.{arrival_over_road, arrival_by_place}
+use Rattle.front.specs.OneRoad.{arrival_with_load, arrival_over_road, arrival_by_place}
 use Rattle.front.specs.Front.{Serves, Before, sooner, higher_rank, lower_junction}
 use Rattle.front.specs.Labels.{Served}
 use Rattle.front.specs.Invariant.{IsNext, Spreads, Thins}
 use Rattle.front.proofs.OneRoad.{arrival_by_place_leads, leads_to_arrival_by_place, leading_place_is_below_twelve}
+use Rattle.walks.specs.declared.trial.Ending.TheVariants.{PastDeadline}
+use Rattle.walks.specs.Trial.{arrival_over, step_over, step_by_place}
 use Rattle.queue.specs.Heaps.{Least}
 use Rattle.promises.specs.declared.candidate.Candidate.{Candidate}
 use Rattle.promises.specs.Order.{leaves_before}
-use Rattle.search.specs.Steps.{label_serves, served_by, found, road_at, candidate, offer, GrownBy, Dropped}
+use Rattle.search.specs.Steps.{label_serves, served_by, candidate, offer, GrownBy, Dropped}
 use Rattle.promises.specs.StandsFor.{labels_of}
 use Rattle.search.proofs.Queueing.{has_here, has_there, has_cons, has_none}
 
@@ -38,24 +41,29 @@ map_has {X} {Y} f (x ∷ xs) y h = go (map_has f xs y) (has_cons (f x) y (map f 
     go rec (inl e) = (x, has_here x xs, e)
     go rec (inr g) = let (z, hz, ez) = rec g in (z, has_there x z xs hz, ez)
 
--- the place question and the rows agree at the twelve places
-pub road_at_at : (rows : Rows) (v k : ℕ) → k < 12 → road_at rows v k ≡ at rows v k
-unfolding at
-road_at_at rows v k h = go (cases_lt v (length rows))
-  where
-    go : (v < length rows) ⊎ (length rows ≤ v) → road_at rows v k ≡ at rows v k
-    go (inl l) = ap found (cond-true _ _ _ (lt-ltb v (length rows) l) ∙ cond-true _ _ _ (lt-ltb k 12 h))
-    go (inr l) = ap found (cond-false _ _ _ (le-ltb v (length rows) l)) ∙ sym (ap (λ (r : List (Option Road)). get_or r k None) (get_or_past rows v [] l))
+-- the arrival of a step, where it has one, is that by the place
+module _ {L : Type 0} (m : Meaning L) (D : ℕ) (a : Arrival L) where
+  in_time : (e : Road) (x : Arrival L) (b : Bool) → result_ok (cond b (Ok x) (Err (PastDeadline e))) ≡ cond b (Some x) None
+  in_time e x true = refl
+  in_time e x false = refl
 
-module _ {L : Type 0} (q : Query L) (a : Arrival L) (n k : ℕ) (h : k < 12) where
-  offer_over : offer q.rows q.kind q.deadline a n k ≡ option_map (candidate q.kind n k) (arrival_by_place q.rows q.kind q.deadline a k)
-  offer_over = ap (λ (o : Option Road). option_map (candidate q.kind n k) (arrival_over_road q.kind q.deadline a o)) (road_at_at q.rows a.junction k h)
+  over : (e : Road) (o : Option L) → result_ok (arrival_over D a e o) ≡ arrival_with_load D a e o
+  over e None = refl
+  over e (Some f) = in_time e _ (leb (a.time + e.seconds) D)
 
+  over_what_is_there : (o : Option Road) → result_ok (step_over m D a o) ≡ arrival_over_road m D a o
+  over_what_is_there None = refl
+  over_what_is_there (Some e) = over e (m.drive a.load e)
+
+  pub step_arrives : (rows : Rows) (k : ℕ) → result_ok (step_by_place rows m D a k) ≡ arrival_by_place rows m D a k
+  step_arrives rows k = over_what_is_there (at rows a.junction k)
+
+module _ {L : Type 0} (q : Query L) (a : Arrival L) (n k : ℕ) where
   pub offer_leads : (c : Candidate L) → offer q.rows q.kind q.deadline a n k ≡ Some c → (b : Arrival L) × Leads q a k b × (candidate q.kind n k b ≡ c)
-  offer_leads c e = let (b, p, r) = from_mapped (candidate q.kind n k) (arrival_by_place q.rows q.kind q.deadline a k) c (sym offer_over ∙ e) in (b, arrival_by_place_leads q a k b p, r)
+  offer_leads c e = let (b, p, r) = from_mapped (candidate q.kind n k) (arrival_by_place q.rows q.kind q.deadline a k) c e in (b, arrival_by_place_leads q a k b p, r)
 
   pub leads_offer : (b : Arrival L) → Leads q a k b → offer q.rows q.kind q.deadline a n k ≡ Some (candidate q.kind n k b)
-  leads_offer b l = offer_over ∙ ap (option_map (candidate q.kind n k)) (leads_to_arrival_by_place q a k b l)
+  leads_offer b l = ap (option_map (candidate q.kind n k)) (leads_to_arrival_by_place q a k b l)
 
 module _ {L : Type 0} (m : Meaning L) where
   covers_serves : (a : Arrival L) (x : Label L) → label_serves m a x ≡ true → Serves m x.arrival a
@@ -110,7 +118,7 @@ module _ {L : Type 0} (q : Query L) (listed : List (Label L)) where
       one : (c : Candidate L) (d : Label L) → c.label ≡ d → Has cs₁ c ⊎ ((k : ℕ) × (k < 12) × (offer q.rows q.kind q.deadline x.arrival n k ≡ Some c)) → Has (labels_of cs₀) d ⊎ ((d.before ≡ length listed) × Leads q x.arrival d.place d.arrival)
       one c d e (inl h) = inl (subst (λ (y : Label L). Has (labels_of cs₀) y) e (has_map (λ (c : Candidate L). c.label) cs₀ c (only₀ c h)))
       one c d e (inr (k, lt, o)) =
-          let (b, l, p) = offer_leads q x.arrival n k lt c o in
+          let (b, l, p) = offer_leads q x.arrival n k c o in
           let same : (candidate q.kind n k b).label ≡ d = ap (λ (c : Candidate L). c.label) p ∙ e in
           inr (subst (λ (y : Label L). (y.before ≡ length listed) × Leads q x.arrival y.place y.arrival) same (en, l))
 
@@ -127,4 +135,4 @@ module _ {L : Type 0} (q : Query L) (listed : List (Label L)) where
       roads' : (k : ℕ) (b : Arrival L) → Leads q x.arrival k b → Served q.kind (listed ++ x ∷ []) b ⊎ Has (labels_of cs₂) (record { arrival = b; before = length listed; place = k })
       roads' k b l =
           let lt = leading_place_is_below_twelve q x.arrival fair k b l in
-          inr (subst (λ (j : ℕ). Has (labels_of cs₂) (record { arrival = b; before = j; place = k })) en (has_map (λ (c : Candidate L). c.label) cs₂ (candidate q.kind n k b) (g.what_was_offered_waits k (candidate q.kind n k b) lt (leads_offer q x.arrival n k lt b l))))
+          inr (subst (λ (j : ℕ). Has (labels_of cs₂) (record { arrival = b; before = j; place = k })) en (has_map (λ (c : Candidate L). c.label) cs₂ (candidate q.kind n k b) (g.what_was_offered_waits k (candidate q.kind n k b) lt (leads_offer q x.arrival n k b l))))

@@ -121,7 +121,7 @@ module _ {L : Type 0} (q : Query L) (s : Numbers) (ls : List (Label L)) (ws : Li
 
         ranks : (d : Candidate L) → Has cs d ⊎ ((k : ℕ) × (k < 12) × (offer q.rows q.kind q.deadline c.label.arrival s.listed k ≡ Some d)) → d.rank ≡ q.kind.rank d.label.arrival.load
         ranks d (inl h) = ranked_in d (has_there c d cs h)
-        ranks d (inr (k, l, o)) = let (b, ld, p) = offer_leads q c.label.arrival s.listed k l d o in subst (λ (y : Candidate L). y.rank ≡ q.kind.rank y.label.arrival.load) p refl
+        ranks d (inr (k, l, o)) = let (b, ld, p) = offer_leads q c.label.arrival s.listed k d o in subst (λ (y : Candidate L). y.rank ≡ q.kind.rank y.label.arrival.load) p refl
 
         ranked' : (d : Candidate L) → Has (take s'.waiting ws') d → d.rank ≡ q.kind.rank d.label.arrival.load
         ranked' d h = ranks d (g.each_waited_or_was_offered d h)

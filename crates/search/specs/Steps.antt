@@ -4,12 +4,11 @@ use Rattle.std.specs.Option.{option_map}
 use Rattle.std.specs.List.{ContainsAt as Has, list_any}
 use Rattle.refusals.specs.declared.refusal.Refusal.{Refusal}
 use Rattle.refusals.specs.declared.refusal.Refusal.TheVariants.{NotBegun, NotAsBegun}
-use Rattle.maps.specs.declared.road.Road.{Road}
-use Rattle.maps.specs.Rows.{Rows, answered}
+use Rattle.maps.specs.Rows.{Rows}
 use Rattle.loads.specs.Meaning.{Meaning}
 use Rattle.front.specs.declared.arrival.Arrival.{Arrival}
 use Rattle.front.specs.declared.label.Label.{Label}
-use Rattle.front.specs.OneRoad.{arrival_over_road}
+use Rattle.front.specs.OneRoad.{arrival_by_place}
 use Rattle.promises.specs.declared.candidate.Candidate.{Candidate}
 use Rattle.search.specs.declared.search.Underway.{Underway}
 
@@ -26,21 +25,13 @@ label_serves m a x = x.arrival.junction == a.junction && (nat_le x.arrival.time 
 abbrev pub served_by : {L : Type 0} → Meaning L → List (Label L) → Arrival L → Bool
 served_by m xs a = list_any (label_serves m a) xs
 
--- what the place question found: none where it was refused
-abbrev pub found : Result (Option Road) Refusal → Option Road
-found (Ok o) = o
-found (Err e) = None
-
-abbrev pub road_at : Rows → ℕ → ℕ → Option Road
-road_at rows v k = found (answered rows v k)
-
 -- the candidate that arrives as b from label n by place k
 abbrev pub candidate : {L : Type 0} → Meaning L → ℕ → ℕ → Arrival L → Candidate L
 candidate m n k b = record { label = record { arrival = b; before = n; place = k }; rank = m.rank b.load }
 
 -- the candidate that place k of label n offers, which arrives as a, if its road can be driven within the deadline
 abbrev pub offer : {L : Type 0} → Rows → Meaning L → ℕ → Arrival L → ℕ → ℕ → Option (Candidate L)
-offer rows m deadline a n k = option_map (candidate m n k) (arrival_over_road m deadline a (road_at rows a.junction k))
+offer rows m deadline a n k = option_map (candidate m n k) (arrival_by_place rows m deadline a k)
 
 -- cs' is cs with the first n offers
 pub record GrownBy {X : Type 0} (offers : ℕ → Option X) (n : ℕ) (cs cs' : List X) : Type 0 where

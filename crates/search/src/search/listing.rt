@@ -10,6 +10,7 @@ use loads::Kind;
 use maps::Map;
 use promises::candidate::Candidate;
 use queue::Heap;
+use walks::step::step;
 
 mod advance;
 mod begin;
@@ -25,23 +26,14 @@ fn follow<M: Map, K: Kind>(
 ) -> Option<Candidate<K::Load>>
     ensures { result ≡ offer (M.Map.rows map.now) (K.Kind.meaning kind.now) deadline from number place }
 {
-    let road = map.place(from.junction, place).ok()??;
-    let load = kind.drive(from.load, road)?;
-    if from.time > deadline || road.seconds > deadline - from.time {
-        return None;
-    }
-    let arrival = Arrival {
-        junction: road.head,
-        time: from.time + road.seconds,
-        load,
-    };
+    let arrival = step(map, kind, deadline, from, place).ok()?;
     Some(Candidate {
         label: Label {
             arrival,
             before: number,
             place,
         },
-        rank: kind.rank(load),
+        rank: kind.rank(arrival.load),
     })
 }
 
