@@ -4,7 +4,7 @@ use Rattle.std.proofs.lemmas.Bool.{le-leb, and_from}
 use Rattle.maps.specs.Rows.{at}
 use Rattle.loads.specs.declared.charge.Charge.{Charge}
 use Rattle.loads.specs.declared.profile.Profile.{Profile}
-use Rattle.loads.specs.Picked.{none_some, some_same}
+use Rattle.std.proofs.lemmas.Option.{none-some, same_Some}
 use Rattle.loads.specs.Charge.{charge, charges}
 use Rattle.loads.specs.ChargeLaws.{charges_lawful}
 use Rattle.loads.specs.Profile.{plain, profiles}
@@ -33,7 +33,7 @@ module _ (t : Trip) (valid : ValidTrip t) (b : ℕ) (admitted : b ≤ t.capacity
   profile_drives_too a x y k i r l = go ((profiles t.capacity).drive a.load l.road) refl (driving_then_reading_is_reading_then_driving t.capacity a.load l.road b i ∙ ap (λ (o : Option Charge). and_then o (λ c. (charges t.capacity).drive c l.road)) r.charge_read ∙ l.driven)
     where
       go : (o : Option Profile) → (profiles t.capacity).drive a.load l.road ≡ o → and_then o (read_at b) ≡ Some y.load → (c : Arrival Profile) × Leads (profile_query t) a k c × ReadAs b c y
-      go None p e = absurd (none_some y.load None refl e)
+      go None p e = absurd (none-some y.load e)
       go (Some f) p e = (
         arrival_at y.junction y.time f,
         record { road = l.road; at_place = ap (λ (v : ℕ). at t.rows v k) r.same_junction ∙ l.at_place; driven = p; at_head = l.at_head; seconds_later = omega (arith, l.seconds_later, r.same_time); within_deadline = l.within_deadline },
@@ -45,7 +45,7 @@ module _ (t : Trip) (valid : ValidTrip t) (b : ℕ) (admitted : b ≤ t.capacity
   charge_drives_too a c y k i l r = go (read_at b a.load) refl (sym (driving_then_reading_is_reading_then_driving t.capacity a.load l.road b i) ∙ ap (λ (o : Option Profile). and_then o (read_at b)) l.driven ∙ r.charge_read)
     where
       go : (o : Option Charge) → read_at b a.load ≡ o → and_then (read_at b a.load) (λ c. (charges t.capacity).drive c l.road) ≡ Some y.load → (x : Arrival Charge) × ReadAs b a x × Leads (charge_query t b) x k y
-      go None p e = absurd (none_some y.load None refl (sym (ap (λ (o : Option Charge). and_then o (λ c. (charges t.capacity).drive c l.road)) p) ∙ e))
+      go None p e = absurd (none-some y.load (sym (ap (λ (o : Option Charge). and_then o (λ c. (charges t.capacity).drive c l.road)) p) ∙ e))
       go (Some x) p e = (
         arrival_at a.junction a.time x,
         record { same_junction = refl; same_time = refl; charge_read = p },
@@ -60,7 +60,7 @@ module _ (t : Trip) (valid : ValidTrip t) (b : ℕ) (admitted : b ≤ t.capacity
       go (a, da, r) = let (c, lc, rc) = profile_drives_too a x y k (reached_is_a_load (profile_query t) (profile_query_is_valid t valid) a (w, da)) r l in (c, one_road_more da lc, rc)
 
   with_the_profile_then_with_a_charge : {w : Walk} {a : Arrival Profile} → Drives (profile_query t) w a → (x : Arrival Charge) → ReadAs b a x → Drives (charge_query t b) w x
-  with_the_profile_then_with_a_charge empty_walk x r = subst (λ (y : Arrival Charge). Drives (charge_query t b) [] y) (equal_parts_equal_arrivals (departure (charge_query t b)) x r.same_junction r.same_time (some_same _ _ (sym (plain_profile_reads_each_charge t.capacity b admitted) ∙ r.charge_read))) empty_walk
+  with_the_profile_then_with_a_charge empty_walk x r = subst (λ (y : Arrival Charge). Drives (charge_query t b) [] y) (equal_parts_equal_arrivals (departure (charge_query t b)) x r.same_junction r.same_time (same_Some _ _ (sym (plain_profile_reads_each_charge t.capacity b admitted) ∙ r.charge_read))) empty_walk
   with_the_profile_then_with_a_charge (one_road_more {w = w} {a = a} {b = c} {k = k} d l) y r = let (x, rx, lx) = charge_drives_too a c y k (reached_is_a_load (profile_query t) (profile_query_is_valid t valid) a (w, d)) l r in one_road_more (with_the_profile_then_with_a_charge d x rx) lx
 
   pub walk_arrives_as_its_profile_reads : (w : Walk) (x : Arrival Charge) → Drives (charge_query t b) w x ↔ ((a : Arrival Profile) × Drives (profile_query t) w a × ReadAs b a x)

@@ -7,22 +7,23 @@ use Rattle.maps.specs.declared.road.Road.{Road}
 use Rattle.loads.specs.declared.charge.Charge.{Charge}
 use Rattle.loads.specs.Laws.{Laws}
 use Rattle.loads.specs.Charge.{spent, charge, charges}
-use Rattle.loads.specs.Picked.{some_same, passed, from_mapped}
+use Rattle.std.proofs.lemmas.Option.{same_Some}
+use Rattle.loads.specs.Picked.{passed, from_mapped}
 
 -- more is left of more
 spent_more : (m a b b' : ℕ) (c : ℤ) → b ≤ a → spent m b c ≡ Some b' → (a' : ℕ) × (spent m a c ≡ Some a') × (b' ≤ a')
 spent_more m a b b' (pos c) h e =
     let p = passed (nat_le c b) (Some (min m (b - c))) b' e in
     let q : c ≤ b = leb-true c b p.0 in
-    let r : min m (b - c) ≡ b' = some_same _ _ p.1 in
+    let r : min m (b - c) ≡ b' = same_Some _ _ p.1 in
     (min m (a - c), cond-true _ _ _ (le-leb c a (omega arith)), omega arith)
 spent_more m a b b' (negsuc c) h e =
-    let r : min m (b + suc c) ≡ b' = some_same _ _ e in
+    let r : min m (b + suc c) ≡ b' = same_Some _ _ e in
     (min m (a + suc c), refl, omega arith)
 
 spent_most : (m b b' : ℕ) (c : ℤ) → spent m b c ≡ Some b' → b' ≤ m
-spent_most m b b' (pos c) e = let r : min m (b - c) ≡ b' = some_same _ _ (passed (nat_le c b) (Some (min m (b - c))) b' e).1 in omega arith
-spent_most m b b' (negsuc c) e = let r : min m (b + suc c) ≡ b' = some_same _ _ e in omega arith
+spent_most m b b' (pos c) e = let r : min m (b - c) ≡ b' = same_Some _ _ (passed (nat_le c b) (Some (min m (b - c))) b' e).1 in omega arith
+spent_most m b b' (negsuc c) e = let r : min m (b + suc c) ≡ b' = same_Some _ _ e in omega arith
 
 module _ (m : ℕ) (few : m ≤ 100000) where
   at_least : (f g : Charge) → (charges m).as_good f g ≡ true → (f.level ≤ 100000) × (g.level ≤ f.level)

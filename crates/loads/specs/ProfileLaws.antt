@@ -6,7 +6,8 @@ use Rattle.maps.specs.declared.road.Road.{Road}
 use Rattle.loads.specs.declared.profile.Profile.{Profile}
 use Rattle.loads.specs.Laws.{Laws}
 use Rattle.loads.specs.Profile.{profile, is_profile, three_comparisons, over_draw, rank_of, profiles}
-use Rattle.loads.specs.Picked.{some_same, passed}
+use Rattle.std.proofs.lemmas.Option.{same_Some}
+use Rattle.loads.specs.Picked.{passed}
 
 -- what the test of a profile tells
 pub record Bounds (f : Profile) : Type 0 where
@@ -77,21 +78,21 @@ no_worse_drives_no_worse m f g g' (pos c) w e =
     let q : c ≤ g.high = leb-true _ _ p.0 in (
       profile (f.need + (c - f.low)) (min m (f.low - c)) (min m (f.high - c)),
       cond-true _ _ _ (le-leb c f.high (omega arith)),
-      subst (NoWorse _) (some_same _ _ p.1) (record { needs_no_more = omega arith; high_no_lower = omega arith; low_no_lower = low_no_lower_after_draw m c f.low g.low f.need g.need w.needs_no_more w.low_no_lower }),
+      subst (NoWorse _) (same_Some _ _ p.1) (record { needs_no_more = omega arith; high_no_lower = omega arith; low_no_lower = low_no_lower_after_draw m c f.low g.low f.need g.need w.needs_no_more w.low_no_lower }),
     )
 no_worse_drives_no_worse m f g g' (negsuc c) w e = (
   profile f.need (min m (f.low + suc c)) (min m (f.high + suc c)),
   refl,
-  subst (NoWorse _) (some_same _ _ e) (record { needs_no_more = w.needs_no_more; high_no_lower = omega arith; low_no_lower = low_no_lower_after_gain m (suc c) f.low g.low f.need g.need w.needs_no_more w.low_no_lower }),
+  subst (NoWorse _) (same_Some _ _ e) (record { needs_no_more = w.needs_no_more; high_no_lower = omega arith; low_no_lower = low_no_lower_after_gain m (suc c) f.low g.low f.need g.need w.needs_no_more w.low_no_lower }),
 )
 
 after_drive : (m : ℕ) (f f' : Profile) (c : ℤ) → Bounds f → over_draw m f c ≡ Some f' → AfterDrive m f f'
 after_drive m f f' (pos c) h e =
     let p = passed (nat_le c f.high) _ f' e in
     let q : c ≤ f.high = leb-true _ _ p.0 in
-    subst (AfterDrive m f) (some_same _ _ p.1) (record { low_at_most_high = omega arith; high_at_most_capacity = omega arith; need_and_span_not_grown = omega arith })
+    subst (AfterDrive m f) (same_Some _ _ p.1) (record { low_at_most_high = omega arith; high_at_most_capacity = omega arith; need_and_span_not_grown = omega arith })
 after_drive m f f' (negsuc c) h e =
-    subst (AfterDrive m f) (some_same _ _ e) (record { low_at_most_high = omega arith; high_at_most_capacity = omega arith; need_and_span_not_grown = omega arith })
+    subst (AfterDrive m f) (same_Some _ _ e) (record { low_at_most_high = omega arith; high_at_most_capacity = omega arith; need_and_span_not_grown = omega arith })
 
 module _ (m : ℕ) where
   pub both_and_no_worse : (f g : Profile) → (profiles m).as_good f g ≡ true → BothAndNoWorse f g

@@ -1,14 +1,15 @@
 -- The arithmetic of an estate: where its roads lead.
-use Rattle.std.specs.Prelude.{◌≡◌, ℕ, ◌+◌, ◌*◌, ◌/◌, ◌%◌, ◌<◌, ◌≤◌, ℤ, pos, negsuc, ◌≤ℤ◌, Some, None, ◌==◌, refl}
+use Rattle.std.specs.Prelude.{◌≡◌, ℕ, ◌+◌, ◌*◌, ◌/◌, ◌%◌, ◌<◌, ◌≤◌, ℤ, pos, negsuc, ◌≤ℤ◌, Some, ◌==◌}
 use Rattle.std.proofs.Common.{arith}
 use native.Mathlib.Nat.{le_refl}
 use Rattle.std.proofs.lemmas.Nat.{mul-le, mul-add-lt, div-add-mod', div_below, mod_below}
 use Rattle.std.proofs.lemmas.Bool.{ltb-true}
 use Rattle.std.proofs.lemmas.Int.{ints}
+use Rattle.std.proofs.lemmas.Option.{none-some}
 use Rattle.maps.specs.declared.road.Road.{Road}
 use Rattle.maps.specs.Rows.{Fits, Sound}
 use Rattle.maps.specs.Estate.{estate_place, estate_rows}
-use Rattle.maps.specs.SomeRoad.{none_some, under, either}
+use Rattle.maps.specs.SomeRoad.{under, either}
 use Rattle.maps.specs.RowsSound.{sound_tabulated}
 
 pub width_below : (w h : ℕ) → 1 ≤ h → w ≤ w * h
@@ -36,7 +37,7 @@ module _ (w h t d g : ℕ) (a : 1 ≤ w) (b : 1 ≤ h) (c : w * h ≤ 9600) (t1 
       (either (k == 1) _ _ (Fits (w * h)) (under _ _ (Fits (w * h)) (λ u. fit _ _ (next_column w h v a p (ltb-true _ _ u)) (omega (arith, ints)) (omega (arith, ints))))
       (either (k == 2) _ _ (Fits (w * h)) (under _ _ (Fits (w * h)) (λ u. fit _ _ (omega arith) (omega (arith, ints)) (omega (arith, ints))))
       (either (k == 3) _ _ (Fits (w * h)) (under _ _ (Fits (w * h)) (λ u. fit _ _ (omega arith) (omega (arith, ints)) (omega (arith, ints))))
-      (λ e s. absurd (none_some e None refl s))))) e
+      (λ e s. absurd (none-some e s))))) e
 
   pub estate_sound : Sound (estate_rows w h t d g)
   estate_sound = sound_tabulated (w * h) (estate_place w h t d g) c estate_fits

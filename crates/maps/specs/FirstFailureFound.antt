@@ -2,6 +2,7 @@
 use Rattle.std.specs.Prelude.{◌≡◌, ℕ, zero, suc, ◌+◌, ◌<◌, ◌≤◌, Some, None, Option, refl}
 use Rattle.std.proofs.Common.{sym, ap, ◌∙◌, ⊎_elim, add-one, arith}
 use Rattle.std.proofs.lemmas.Bool.{cases_lt}
+use Rattle.std.proofs.lemmas.Option.{none-some}
 use Rattle.maps.specs.FirstFailure.{or_else, first_failure}
 
 pub first_failure_none : {X : Type 0} (f : ℕ → Option X) → first_failure f 0 ≡ None
@@ -29,7 +30,7 @@ first_failure_here f n i x h p q = sym (first_failure_stays f n (suc i) x h (ap 
 
 pub or_else_none : {X : Type 0} (a b : Option X) → or_else a b ≡ None → (a ≡ None) × (b ≡ None)
 or_else_none None b e = (refl, e)
-or_else_none (Some x) b e = absurd (let z : ◌≡◌ {A = ℕ} 0 1 = cc in omega arith)
+or_else_none (Some x) b e = absurd (none-some x (sym e))
 
 -- where none is found, each check passes
 pub first_failure_each : {X : Type 0} (f : ℕ → Option X) (n i : ℕ) → i < n → first_failure f n ≡ None → f i ≡ None

@@ -5,8 +5,8 @@ use Rattle.std.specs.List.{range_with_len}
 use Rattle.std.proofs.lemmas.List.FromFn.{length-map-range_with_len, get_or-map-range_with_len}
 use Rattle.std.proofs.lemmas.List.{get_or_past}
 use Rattle.std.proofs.lemmas.Bool.{cases_lt}
+use Rattle.std.proofs.lemmas.Option.{none-some}
 use Rattle.maps.specs.declared.road.Road.{Road}
-use Rattle.maps.specs.SomeRoad.{none_some}
 use Rattle.maps.specs.Rows.{Rows, at, Fits, Sound, tabulated, layered}
 
 pub length_tabulated : (n : ℕ) (f : ℕ → ℕ → Option Road) → length (tabulated n f) ≡ n
@@ -42,11 +42,11 @@ sound_tabulated n f few each = record {
   where
     inside : (v k : ℕ) (e : Road) → at (tabulated n f) v k ≡ Some e → v < n → (k < 12) ⊎ (12 ≤ k) → Fits n e
     inside v k e s p (inl q) = each v k e p q (sym (at_tabulated n f v k p q) ∙ s)
-    inside v k e s p (inr q) = absurd (none_some e _ (at_beyond (tabulated n f) v k (omega (arith, row_length n f v p))) s)
+    inside v k e s p (inr q) = absurd (none-some e (sym (at_beyond (tabulated n f) v k (omega (arith, row_length n f v p))) ∙ s))
 
     fit : (v k : ℕ) (e : Road) → at (tabulated n f) v k ≡ Some e → (v < n) ⊎ (n ≤ v) → Fits n e
     fit v k e s (inl p) = inside v k e s p (cases_lt k 12)
-    fit v k e s (inr p) = absurd (none_some e _ (at_past (tabulated n f) v k (omega (arith, length_tabulated n f))) s)
+    fit v k e s (inr p) = absurd (none-some e (sym (at_past (tabulated n f) v k (omega (arith, length_tabulated n f))) ∙ s))
 
 pub length_layered : (g : ℕ → ℕ → Option Road → Option Road) (rows : Rows) → length (layered g rows) ≡ length rows
 unfolding layered

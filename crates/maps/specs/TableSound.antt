@@ -1,8 +1,9 @@
 -- Tables that pass every check make a sound map.
-use Rattle.std.specs.Prelude.{◌≡◌, ℕ, ◌+◌, ◌*◌, ◌/◌, ◌%◌, ◌<◌, ◌≤◌, Bool, true, false, cond, List, length, ℤ, pos, ◌≤ℤ◌, is_some, Some, None, Option, ◌==◌, ◌≢◌, int_lt, nat_lt, slice_index, slice_index_or, refl}
+use Rattle.std.specs.Prelude.{◌≡◌, ℕ, ◌+◌, ◌*◌, ◌/◌, ◌%◌, ◌<◌, ◌≤◌, Bool, true, false, cond, List, length, ℤ, pos, ◌≤ℤ◌, is_some, Some, None, Option, ◌==◌, int_lt, nat_lt, slice_index, slice_index_or, refl}
 use Rattle.std.proofs.Common.{sym, ap, ◌∙◌, arith}
 use Rattle.std.proofs.lemmas.Bool.{ltb-true, ltb-false, eqb-false, not-false, or_parts, true≢false}
 use Rattle.std.proofs.lemmas.Int.{ints}
+use Rattle.std.proofs.lemmas.Option.{none-some}
 use Rattle.maps.specs.declared.road.Road.{Road}
 use Rattle.refusals.specs.declared.refusal.Refusal.{Refusal}
 use Rattle.maps.specs.Rows.{Fits, Sound}
@@ -12,12 +13,9 @@ use Rattle.maps.specs.SomeRoad.{under}
 use Rattle.maps.specs.FirstFailureFound.{first_failure_each, or_else_none}
 use Rattle.maps.specs.RowsSound.{sound_tabulated}
 
-some_none : (x : Refusal) → Some x ≢ None
-some_none x e = let z : ◌≡◌ {A = ℕ} 0 1 = cc in omega arith
-
 -- a check that passed: its test was false, and so the rest passed
 passes : (b : Bool) (x : Refusal) (y : Option Refusal) → cond b (Some x) y ≡ None → (b ≡ false) × (y ≡ None)
-passes true x y e = absurd (some_none x e)
+passes true x y e = absurd (none-some x (sym e))
 passes false x y e = (refl, e)
 
 none_from : (o : Option Refusal) → is_some o ≡ false → o ≡ None
