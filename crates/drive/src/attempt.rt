@@ -1,39 +1,31 @@
 //! The walk that was asked for, tried on the map that was asked for.
-use crate::request::{EstateNumbers, Request, ShutPlace};
+use crate::request::{EstateNumbers, Request};
 use crate::worked;
 use files::fault::{FileFault, FileName, ReadFault};
 use files::road_file::read_roads;
 use inputs::text_file::read_file_if_there;
 use loads::charge::Charge;
 use maps::Map;
-use maps::closures::Closures;
+use maps::closures::{Closures, ShutPlace};
 use maps::estate::Estate;
-use maps::table::TableMap;
+use maps::table::{TableMap, Tables};
 use refusals::refusal::Refusal;
 use std::alloc::Global;
+use thiserror::Error;
 use walks::trial::{NoTrial, Trial, try_charged_walk};
 
 /// The most junctions that a map has.
 const MOST_JUNCTIONS: u32 = 9_600;
 
 /// Why nothing was driven.
-#[derive(Clone, Copy)]
+#[derive(Clone, Copy, Debug, Error)]
 pub enum NotDriven {
-    Refused(Refusal),
-    InFile(FileFault),
+    #[error("refused")]
+    Refused(#[from] Refusal),
+    #[error("a fault in a file")]
+    InFile(#[from] FileFault),
+    #[error("out of memory")]
     OutOfMemory,
-}
-
-impl From<Refusal> for NotDriven {
-    fn from(refusal: Refusal) -> NotDriven {
-        NotDriven::Refused(refusal)
-    }
-}
-
-impl From<FileFault> for NotDriven {
-    fn from(fault: FileFault) -> NotDriven {
-        NotDriven::InFile(fault)
-    }
 }
 
 impl From<NoTrial> for NotDriven {
@@ -90,23 +82,13 @@ fn estate_of(numbers: EstateNumbers) -> Result<Estate, Refusal> {
     )
 }
 
-// The same on the map of a road file.
-fn try_roads(heap: Global, text: &[u8], request: &Request) -> Result<Trial<Charge>, NotDriven> {
-    let tables = read_roads(heap, text, MOST_JUNCTIONS)?;
-    let mut map = TableMap::empty();
-    map.load(&tables.counts, &tables.heads, &tables.times, &tables.draws)?;
-    Ok(try_over(heap, map, request)?)
-}
-
-// The same on the worked map.
-fn try_worked(heap: Global, request: &Request) -> Result<Trial<Charge>, NotDriven> {
-    let mut map = TableMap::empty();
-    map.load(
-        &worked::COUNTS,
-        &worked::HEADS,
-        &worked::TIMES,
-        &worked::DRAWS,
-    )?;
+// The same on the map of these tables.
+fn try_tables(
+    heap: Global,
+    tables: Tables<'_>,
+    request: &Request,
+) -> Result<Trial<Charge>, NotDriven> {
+    let map = TableMap::new(tables)?;
     Ok(try_over(heap, map, request)?)
 }
 
@@ -117,8 +99,9 @@ pub fn attempt(rt: &HostRuntime, request: &Request) -> Result<Trial<Charge>, Not
     if let Some(numbers) = request.estate {
         return Ok(try_over(heap, estate_of(numbers)?, request)?);
     }
-    match read_file_if_there(rt, FileName::Roads)? {
-        Some(text) => try_roads(heap, &text, request),
-        None => try_worked(heap, request),
-    }
+    let Some(text) = read_file_if_there(rt, FileName::Roads)? else {
+        return try_tables(heap, worked::tables(), request);
+    };
+    let roads = read_roads(heap, &text, MOST_JUNCTIONS)?;
+    try_tables(heap, roads.lent(), request)
 }

@@ -51,13 +51,16 @@ fn print_ending(rt: &HostRuntime, departed_with: u32, trial: &Trial<Charge>) -> 
 }
 
 fn complain(rt: &HostRuntime, bad: BadRequest) -> io::Result<()> {
-    let why = match bad {
-        BadRequest::TooFewWords => "too few words",
-        BadRequest::NotANumber => "a word that is no whole number",
-        BadRequest::OutOfMemory => "out of memory",
-    };
-    println!(rt; "{why}; usage:")?;
+    println!(rt; "{bad}; usage:")?;
     println!(rt; "drive [--estate W H T D G] [--shut J K].. START CHARGE CAPACITY WATTS PLACE..")
+}
+
+fn explain(rt: &HostRuntime, why: NotDriven) -> io::Result<()> {
+    match why {
+        NotDriven::Refused(refusal) => println!(rt; "refused {}: {refusal}", refusal.number()),
+        NotDriven::InFile(fault) => print_fault(rt, fault),
+        NotDriven::OutOfMemory => Ok(()),
+    }
 }
 
 fn run(rt: &HostRuntime, request: &Request) -> anyhow::Result<()> {
@@ -67,15 +70,10 @@ fn run(rt: &HostRuntime, request: &Request) -> anyhow::Result<()> {
             print_ending(rt, request.charge, &trial)?;
             Ok(())
         }
-        Err(NotDriven::Refused(refusal)) => {
-            println!(rt; "refused {}: {refusal}", refusal.number())?;
-            Err(anyhow!("refused"))
+        Err(why) => {
+            explain(rt, why)?;
+            Err(why.into())
         }
-        Err(NotDriven::InFile(fault)) => {
-            print_fault(rt, fault)?;
-            Err(anyhow!("a fault in a file"))
-        }
-        Err(NotDriven::OutOfMemory) => Err(anyhow!("out of memory")),
     }
 }
 

@@ -1,5 +1,8 @@
 //! What is asked on the command line.
-use std::alloc::{AllocFailed, Global};
+use maps::closures::ShutPlace;
+use std::alloc::{AllocError, Global};
+use std::num::ParseIntError;
+use thiserror::Error;
 
 /// The numbers of an estate: width, height, seconds, flat draw and rise.
 #[derive(Clone, Copy)]
@@ -9,13 +12,6 @@ pub struct EstateNumbers {
     pub seconds: u32,
     pub flat: u32,
     pub rise: u32,
-}
-
-/// A place to shut.
-#[derive(Clone, Copy)]
-pub struct ShutPlace {
-    pub junction: u32,
-    pub place: u32,
 }
 
 /// A walk to try: on which map, with which places shut, from where, with what charge and capacity,
@@ -32,32 +28,22 @@ pub struct Request {
 }
 
 /// Why the words on the command line ask for nothing.
-#[derive(Clone, Copy)]
+#[derive(Debug, Drop, Error)]
 pub enum BadRequest {
+    #[error("too few words")]
     TooFewWords,
-    NotANumber,
-    OutOfMemory,
-}
-
-impl<T: Drop> From<AllocFailed<T>> for BadRequest {
-    fn from(_refused: AllocFailed<T>) -> BadRequest {
-        BadRequest::OutOfMemory
-    }
+    #[error("a word that is no whole number")]
+    NotANumber(#[from] ParseIntError),
+    #[error("out of memory")]
+    OutOfMemory(#[from(alloc)] AllocError),
 }
 
 fn number(word: &String) -> Result<u32, BadRequest> {
-    match word.as_str().parse::<u32>() {
-        Ok(number) => Ok(number),
-        Err(_) => Err(BadRequest::NotANumber),
-    }
+    Ok(word.as_str().parse()?)
 }
 
 fn numbers(heap: Global, words: &[String]) -> Result<Vec<u32>, BadRequest> {
-    let mut numbers = Vec::new(heap);
-    for word in words {
-        numbers.push(number(word)?)?;
-    }
-    Ok(numbers)
+    words.iter().map(number).try_collect(heap)
 }
 
 // The estate that the words after `--estate` name, and the words after it.
@@ -75,26 +61,22 @@ fn read_estate(words: &[String]) -> Result<(EstateNumbers, &[String]), BadReques
     Ok((estate, rest))
 }
 
-// The place that the words after `--shut` name.
-fn read_shut(words: &[String]) -> Result<ShutPlace, BadRequest> {
-    let [junction, place, ..] = words else {
-        return Err(BadRequest::TooFewWords);
-    };
-    Ok(ShutPlace {
-        junction: number(junction)?,
-        place: number(place)?,
-    })
-}
-
-// The places to shut that the words begin with, and how many words they take.
-fn read_shuts(heap: Global, words: &[String]) -> Result<(Vec<ShutPlace>, usize), BadRequest> {
+// The places to shut that the words begin with, and the words after them.
+fn read_shuts(
+    heap: Global,
+    mut words: &[String],
+) -> Result<(Vec<ShutPlace>, &[String]), BadRequest> {
     let mut shut = Vec::new(heap);
-    let mut at = 0;
-    while at < words.len() && words[at].as_str() == "--shut" {
-        shut.push(read_shut(&words[at + 1..])?)?;
-        at = at.saturating_add(3);
+    while let [option, junction, place, rest @ ..] = words
+        && option.as_str() == "--shut"
+    {
+        shut.push(ShutPlace {
+            junction: number(junction)?,
+            place: number(place)?,
+        })?;
+        words = rest;
     }
-    Ok((shut, at))
+    Ok((shut, words))
 }
 
 // The walk that the words ask for: start, charge, capacity, watts, then the places.
@@ -103,11 +85,8 @@ fn read_walk(
     estate: Option<EstateNumbers>,
     words: &[String],
 ) -> Result<Request, BadRequest> {
-    let (shut, used) = read_shuts(heap, words)?;
-    if used > words.len() {
-        return Err(BadRequest::TooFewWords);
-    }
-    let [start, charge, capacity, watts, walk @ ..] = &words[used..] else {
+    let (shut, words) = read_shuts(heap, words)?;
+    let [start, charge, capacity, watts, walk @ ..] = words else {
         return Err(BadRequest::TooFewWords);
     };
     Ok(Request {
