@@ -12,7 +12,7 @@ use maps::table::{TableMap, Tables};
 use refusals::refusal::Refusal;
 use std::alloc::Global;
 use thiserror::Error;
-use walks::trial::{NoTrial, Trial, try_charged_walk};
+use walks::trial::{ChargedWalk, NoTrial, Trial, try_charged_walk};
 
 /// The most junctions that a map has.
 const MOST_JUNCTIONS: u32 = 9_600;
@@ -64,22 +64,28 @@ fn try_over<M: Map + Drop>(
     try_charged_walk(
         heap,
         closed,
-        request.watts,
-        request.capacity,
-        request.start,
-        request.charge,
-        &request.places,
+        ChargedWalk {
+            watts: request.watts,
+            capacity: request.capacity,
+            start: request.start,
+            charge: request.charge,
+            places: &request.places,
+        },
     )
 }
 
-fn estate_of(numbers: EstateNumbers) -> Result<Estate, Refusal> {
-    Estate::new(
-        numbers.width,
-        numbers.height,
-        numbers.seconds,
-        numbers.flat,
-        numbers.rise,
-    )
+impl TryFrom<EstateNumbers> for Estate {
+    type Error = Refusal;
+
+    fn try_from(numbers: EstateNumbers) -> Result<Estate, Refusal> {
+        Estate::new(
+            numbers.width,
+            numbers.height,
+            numbers.seconds,
+            numbers.flat,
+            numbers.rise,
+        )
+    }
 }
 
 // The same on the map of these tables.
@@ -97,7 +103,7 @@ fn try_tables(
 pub fn attempt(rt: &HostRuntime, request: &Request) -> Result<Trial<Charge>, NotDriven> {
     let heap = rt.alloc();
     if let Some(numbers) = request.estate {
-        return Ok(try_over(heap, estate_of(numbers)?, request)?);
+        return Ok(try_over(heap, Estate::try_from(numbers)?, request)?);
     }
     let Some(text) = read_file_if_there(rt, FileName::Roads)? else {
         return try_tables(heap, worked::tables(), request);
