@@ -71,14 +71,19 @@ pub fn read_names<C: Column, const N: usize>(all: [C; N], line: &[u8]) -> Result
 }
 
 /// A value line, field by field in the order of the columns, from a blank row on.
-pub fn read_row<C: Column>(columns: &[C], room: u32, line: &[u8]) -> Result<C::Row, LineFault>
-    ensures { result ≡ value_line (C.Column.filled room) columns.now C.Column.blank (pieces 32 line.now) }
+pub fn read_row<C: Column>(
+    columns: &[C],
+    room: u32,
+    blank: C::Row,
+    line: &[u8],
+) -> Result<C::Row, LineFault>
+    ensures { result ≡ value_line (C.Column.filled room) columns.now blank (pieces 32 line.now) }
 {
     if !is_parted(line, columns.len()) {
         return Err(LineFault::WholeLine(Refusal::FieldCountDiffers));
     }
     let mut fields = FieldReader::new(line);
-    let mut row = C::blank();
+    let mut row = blank;
     for (before, column) in columns.iter().enumerate() {
         if let Some(field) = fields.next() {
             row = column.fill(row, room, field).map_err(|refusal| ValueFault {

@@ -43,6 +43,6 @@ pub(crate) fn next_row<C: Column>(
     let Some(line) = lines.next_line()? else {
         return Ok(None);
     };
-    let row = lines.placed(read_row(columns, room, line))?;
+    let row = lines.placed(read_row(columns, room, C::blank(), line))?;
     Ok(Some(row))
 }
