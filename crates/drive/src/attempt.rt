@@ -28,6 +28,7 @@ pub enum NotDriven {
     OutOfMemory,
 }
 
+// This conversion and the next are written out, since each case of theirs becomes a case here.
 impl From<NoTrial> for NotDriven {
     fn from(why: NoTrial) -> NotDriven {
         match why {

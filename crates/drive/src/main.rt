@@ -16,14 +16,10 @@ use walks::trial::{Ending, Trial};
 
 fn print_legs(rt: &HostRuntime, trial: &Trial<Charge>) -> io::Result<()> {
     println!(rt; "road junction place seconds charge")?;
-    for (i, leg) in trial.legs.iter().enumerate() {
+    for (road, leg) in (1..=trial.legs.len()).zip(&trial.legs) {
         println!(rt;
-            "{} {} {} {} {}",
-            i.wrapping_add(1),
-            leg.junction,
-            leg.place,
-            leg.time,
-            leg.load.level
+            "{road} {} {} {} {}",
+            leg.junction, leg.place, leg.time, leg.load.level
         )?;
     }
     Ok(())
@@ -31,12 +27,10 @@ fn print_legs(rt: &HostRuntime, trial: &Trial<Charge>) -> io::Result<()> {
 
 fn print_ending(rt: &HostRuntime, departed_with: u32, trial: &Trial<Charge>) -> io::Result<()> {
     let road = trial.legs.len().wrapping_add(1);
-    let charge = match trial.legs.last() {
-        Some(leg) => leg.load,
-        None => Charge {
-            level: departed_with,
-        },
+    let departure = Charge {
+        level: departed_with,
     };
+    let charge = trial.legs.last().map_or(departure, |leg| leg.load);
     match trial.ending {
         Ending::Arrived => println!(rt; "arrived"),
         Ending::EmptyPlace => println!(rt; "stranded at road {road}: the place is empty"),

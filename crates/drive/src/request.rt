@@ -5,6 +5,7 @@ use std::num::ParseIntError;
 use thiserror::Error;
 
 /// The numbers of an estate: width, height, seconds, flat draw and rise.
+// Not an `Estate`, whose numbers have passed its checks: these are as they were asked for.
 #[derive(Clone, Copy)]
 pub struct EstateNumbers {
     pub width: u32,

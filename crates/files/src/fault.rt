@@ -42,6 +42,7 @@ pub enum LineFault {
     InField(ValueFault),
 }
 
+// This conversion and those below are written out, since one that is derived promises nothing of what it makes.
 impl From<ValueFault> for LineFault {
     ghost from_gives = { λ v l. l ≡ InField v };
 

@@ -4,6 +4,7 @@ ghost use Rattle.std.specs.Prelude.{◌≡◌, ◌≤◌, length};
 use crate::fault::FileName;
 
 /// The lines of a file, one after another.
+// It holds the lent file and a place in it, as each reader of the project's files is to.
 #[derive(Drop)]
 pub struct LineReader<'a> {
     file: FileName,

@@ -115,7 +115,7 @@ fn from_five(heap: Global, roads: usize) -> Result<Vec<u8>, AllocError> {
     let mut text = Vec::new(heap);
     text.extend_from_slice(NAMES)?;
     text.extend_from_slice(GOOD)?;
-    for _k in 0..roads {
+    for _ in 0..roads {
         text.extend_from_slice(b"5 0 9 -7\n")?;
     }
     Ok(text)

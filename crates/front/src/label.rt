@@ -6,7 +6,7 @@ use crate::arrival::Arrival;
 pub struct Label<L> {
     /// Where its walk arrives.
     pub arrival: Arrival<L>,
-    /// The number of the label before it.
+    /// The number of the label before it; a number and no reference, since the table is lent to each call anew.
     pub before: u32,
     /// The place driven from the label before it.
     pub place: u32,

@@ -92,6 +92,7 @@ impl Tables<'_> {
     }
 
     // Checks every road, in the order of the entries.
+    // The loop goes by the entry's number, which three tables share and from which its junction follows.
     fn check_roads(self) -> Result<(), Refusal>
         requires { lengths_fault self.counts.now self.heads.now self.times.now self.draws.now ≡ None }
         ensures { result_err result ≡ first_failure (entry_fault self.entry.counts.now self.entry.heads.now self.entry.times.now self.entry.draws.now) (12 * length self.entry.counts.now) }

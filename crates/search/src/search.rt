@@ -8,6 +8,7 @@ mod trace;
 use refusals::refusal::Refusal;
 
 /// A search. Its label table and its waiting table are lent to each call that needs them.
+// Map, kind and the two tables are parameters of their own: the caller's, shown anew to each call, of which some take fewer.
 #[derive(Drop)]
 pub struct Search {
     // what it keeps since the last begin that was accepted

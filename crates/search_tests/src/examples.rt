@@ -14,6 +14,7 @@ use std::alloc::{AllocError, Global};
 use std::test::Fail;
 
 // 0 to 1: 60 s, 300 Wh; 0 to 2: 40 s, 700 Wh; 1 to 3: 50 s, 400 Wh; 2 to 3: 30 s, 250 Wh; 2 to 1: 20 s, -200 Wh
+// These are the tables of the program `drive` too, written again here: a test takes its input from no program.
 const COUNTS: [u32; 4] = [2, 1, 2, 0];
 
 const HEADS: [u32; 48] = [
