@@ -9,3 +9,4 @@ pub mod Chart
 pub mod Runs
 pub mod Law
 pub mod ChartLaw
+pub mod Orders

@@ -1,12 +1,13 @@
--- The order in which candidates leave the queue.
-use Rattle.std.specs.Prelude.{Bool}
-use Rattle.std.specs.declared.cmp.Ordering.{Ordering}
-use Rattle.std.specs.Ordering.{is_lt, nat_cmp, on, flip_args, then_cmp}
+-- The order in which candidates leave the queue: time rising, then rank falling, then junction rising.
+use Rattle.std.specs.Prelude.{ℕ, Bool, true, false, cond, nat_lt}
 use Rattle.promises.specs.declared.candidate.Candidate.{Candidate}
 
--- time rising, then rank falling, then junction rising
-abbrev pub order_of_leaving : {L : Type 0} → Candidate L → Candidate L → Ordering
-order_of_leaving = then_cmp (on (λ c. c.label.arrival.time) nat_cmp) (then_cmp (on (λ c. c.rank) (flip_args nat_cmp)) (on (λ c. c.label.arrival.junction) nat_cmp))
+-- whether x comes before y by a number that rises; where it is equal, by the test after it
+abbrev pub rising : {X : Type 0} → (X → ℕ) → (X → X → Bool) → X → X → Bool
+rising f after x y = cond (nat_lt (f x) (f y)) true (cond (nat_lt (f y) (f x)) false (after x y))
+
+abbrev pub falling : {X : Type 0} → (X → ℕ) → (X → X → Bool) → X → X → Bool
+falling f after x y = cond (nat_lt (f y) (f x)) true (cond (nat_lt (f x) (f y)) false (after x y))
 
 abbrev pub leaves_before : {L : Type 0} → Candidate L → Candidate L → Bool
-leaves_before c d = is_lt (order_of_leaving c d)
+leaves_before = rising (λ c. c.label.arrival.time) (falling (λ c. c.rank) (rising (λ c. c.label.arrival.junction) (λ _ _. false)))

@@ -1,8 +1,7 @@
 //! The order in which candidates leave the queue: time rising, then rank falling, then junction rising.
 ghost use Rattle.std.specs.Prelude.{◌≡◌};
 ghost use Rattle.promises.specs.Order.{leaves_before};
-ghost use Rattle.std.proofs.lemmas.List.MinMax.{ranks_by};
-ghost use Rattle.std.proofs.lemmas.Cmp.{then_total, on_total, back_total, nat_cmp_total};
+ghost use Rattle.promises.specs.Orders.{all_tie_ranks, rising_ranks, falling_ranks};
 
 use crate::candidate::Candidate;
 use queue::Entry;
@@ -21,7 +20,7 @@ impl<L: Copy> Candidate<L> {
 impl<L: Copy> Entry for Candidate<L> {
     ghost earlier = { leaves_before };
 
-    ghost strict_weak_order = { ranks_by (then_total (on_total (λ c. c.label.arrival.time) nat_cmp_total) (then_total (on_total (λ c. c.rank) (back_total nat_cmp_total)) (on_total (λ c. c.label.arrival.junction) nat_cmp_total))) (λ c. c) };
+    ghost strict_weak_order = { rising_ranks (λ c. c.label.arrival.time) _ (falling_ranks (λ c. c.rank) _ (rising_ranks (λ c. c.label.arrival.junction) _ all_tie_ranks)) };
 
     fn before(&self, other: &Candidate<L>) -> bool {
         self.key() < other.key()
