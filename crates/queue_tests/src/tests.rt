@@ -33,7 +33,7 @@ const BLANK: Event = Event {
 
 /// Pushes an event of each time, numbered in turn.
 fn push_all(heap: &mut Heap<'_, Event>, times: &[u16]) -> Result<(), Full> {
-    for (number, &time) in (0..u16::MAX).zip(times) {
+    for (number, &time) in (0..).zip(times) {
         heap.push(Event { time, number })?;
     }
     Ok(())
