@@ -64,6 +64,7 @@ pub struct PlacedFault {
 pub struct FileFault {
     pub file: FileName,
     pub line: usize,
+    // 0 is the number that is written for a whole line, so it stands here as it is told
     pub field: usize,
     pub refusal: Refusal,
 }

@@ -4,7 +4,7 @@ ghost use Rattle.std.specs.Prelude.{◌≡◌, ◌≤◌, length};
 use crate::fault::FileName;
 
 /// The lines of a file, one after another.
-// It holds the lent file and a place in it, as each reader of the project's files is to.
+// The lent file and a place in it, not what is left: docs/DECISIONS.md says why.
 #[derive(Drop)]
 pub struct LineReader<'a> {
     file: FileName,

@@ -7,17 +7,10 @@ ghost use Rattle.files.specs.RoadLaw.{road_lines, MapsTheRoads};
 
 use crate::fault::{FileName, ReadFault};
 use crate::lines::LineReader;
-use crate::roads::RoadColumn;
+use crate::roads::ALL;
 use crate::rows::{next_row, read_columns};
 use crate::tables::RoadTables;
 use std::alloc::Global;
-
-const ALL: [RoadColumn; 4] = [
-    RoadColumn::From,
-    RoadColumn::To,
-    RoadColumn::Seconds,
-    RoadColumn::WattHours,
-];
 
 fn read_tables(heap: Global, text: &[u8], room: u32) -> Result<RoadTables, ReadFault>
     requires { room ≤ 9600 }

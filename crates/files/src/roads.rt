@@ -16,6 +16,13 @@ pub enum RoadColumn {
     WattHours,
 }
 
+pub(crate) const ALL: [RoadColumn; 4] = [
+    RoadColumn::From,
+    RoadColumn::To,
+    RoadColumn::Seconds,
+    RoadColumn::WattHours,
+];
+
 /// What a road line holds.
 #[derive(Clone, Copy, Default)]
 pub struct RoadLine {
@@ -39,7 +46,7 @@ fn read_seconds(field: &[u8]) -> Result<u32, Refusal>
     ensures { result ≡ seconds field.now }
 {
     let seconds = read_value(field)?;
-    if seconds < 1 || seconds > 7_200 {
+    if !(1..=7_200).contains(&seconds) {
         return Err(Refusal::RoadTimeOutOfRange);
     }
     Ok(seconds)
@@ -49,7 +56,7 @@ fn read_watt_hours(field: &[u8]) -> Result<i32, Refusal>
     ensures { result ≡ watt_hours field.now }
 {
     let draw = read_signed_value(field)?;
-    if draw < -100_000 || draw > 100_000 {
+    if !(-100_000..=100_000).contains(&draw) {
         return Err(Refusal::RoadDrawOutOfRange);
     }
     Ok(draw)
