@@ -82,15 +82,12 @@ pub fn read_row<C: Column>(
     if !is_parted(line, columns.len()) {
         return Err(LineFault::WholeLine(Refusal::FieldCountDiffers));
     }
-    let mut fields = FieldReader::new(line);
     let mut row = blank;
-    for (before, column) in columns.iter().enumerate() {
-        if let Some(field) = fields.next() {
-            row = column.fill(row, room, field).map_err(|refusal| ValueFault {
-                field: before + 1,
-                refusal,
-            })?;
-        }
+    for (before, (column, field)) in columns.iter().zip(FieldReader::new(line)).enumerate() {
+        row = column.fill(row, room, field).map_err(|refusal| ValueFault {
+            field: before + 1,
+            refusal,
+        })?;
     }
     Ok(row)
 }

@@ -8,6 +8,7 @@ ghost use Rattle.files.specs.FaultText.{file_name, fault_text};
 use refusals::refusal::Refusal;
 use std::alloc::{AllocError, AllocFailed};
 use std::fmt;
+use thiserror::Error;
 
 /// Which of the program's files.
 #[derive(Clone, Copy, PartialEq, Eq, Debug)]
@@ -105,9 +106,11 @@ impl From<PlacedFault> for FileFault {
 }
 
 /// Why nothing was made of a file.
-#[derive(Clone, Copy, PartialEq, Eq, Debug)]
+#[derive(Clone, Copy, PartialEq, Eq, Debug, Error)]
 pub enum ReadFault {
+    #[error("out of memory")]
     NoMemory,
+    #[error("{0}")]
     InFile(FileFault),
 }
 

@@ -24,14 +24,16 @@ pub enum QueryColumn {
     Heater,
 }
 
-const ALL: [QueryColumn; 6] = [
-    QueryColumn::Start,
-    QueryColumn::Goal,
-    QueryColumn::Charge,
-    QueryColumn::Capacity,
-    QueryColumn::Deadline,
-    QueryColumn::Heater,
-];
+impl QueryColumn {
+    const ALL: [QueryColumn; 6] = [
+        QueryColumn::Start,
+        QueryColumn::Goal,
+        QueryColumn::Charge,
+        QueryColumn::Capacity,
+        QueryColumn::Deadline,
+        QueryColumn::Heater,
+    ];
+}
 
 fn with_value(mut question: Question, column: QueryColumn, value: u32) -> Question
     ensures { result ≡ with_value question column value }
@@ -87,7 +89,7 @@ pub fn read_queries(heap: Global, text: &[u8]) -> Result<Vec<Question>, ReadFaul
     ensures { ReadAs vec_items result (query_list text.now) }
 {
     let mut lines = LineReader::new(FileName::Queries, text);
-    let columns = read_columns(&mut lines, ALL)?;
+    let columns = read_columns(&mut lines, QueryColumn::ALL)?;
     let mut questions = Vec::new(heap);
     while let Some(question) = next_row(&mut lines, &columns, 0)? {
         questions.push(question)?;

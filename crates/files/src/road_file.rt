@@ -7,7 +7,7 @@ ghost use Rattle.files.specs.RoadLaw.{road_lines, MapsTheRoads};
 
 use crate::fault::{FileName, ReadFault};
 use crate::lines::LineReader;
-use crate::roads::ALL;
+use crate::roads::RoadColumn;
 use crate::rows::{next_row, read_columns};
 use crate::tables::RoadTables;
 use std::alloc::Global;
@@ -18,7 +18,7 @@ fn read_tables(heap: Global, text: &[u8], room: u32) -> Result<RoadTables, ReadF
 {
     let mut tables = RoadTables::new(heap, room)?;
     let mut lines = LineReader::new(FileName::Roads, text);
-    let columns = read_columns(&mut lines, ALL)?;
+    let columns = read_columns(&mut lines, RoadColumn::ALL)?;
     while let Some(road) = next_row(&mut lines, &columns, room)? {
         lines.placed(tables.put(road))?;
     }

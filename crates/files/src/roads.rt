@@ -16,12 +16,14 @@ pub enum RoadColumn {
     WattHours,
 }
 
-pub(crate) const ALL: [RoadColumn; 4] = [
-    RoadColumn::From,
-    RoadColumn::To,
-    RoadColumn::Seconds,
-    RoadColumn::WattHours,
-];
+impl RoadColumn {
+    pub(crate) const ALL: [RoadColumn; 4] = [
+        RoadColumn::From,
+        RoadColumn::To,
+        RoadColumn::Seconds,
+        RoadColumn::WattHours,
+    ];
+}
 
 /// What a road line holds.
 #[derive(Clone, Copy, Default)]

@@ -77,8 +77,7 @@ fn names_stand_in_any_order(rt: HostRuntime) -> Result<(), Fail> {
     for text in ORDERS {
         match read_queries(rt.alloc(), text) {
             Ok(queries) => {
-                assert_eq!(rt; queries.len(), 1);
-                assert!(rt; queries.len() == 1 && queries[0] == expected);
+                assert_eq!(rt; queries.as_slice(), [expected].as_slice());
             }
             Err(_) => return Err(Fail::new("a good query file was refused")),
         }

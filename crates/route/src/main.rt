@@ -2,7 +2,6 @@
 //! the first fault of a file.
 #![tactic(auto)]
 
-use anyhow::anyhow;
 use files::fault::{FileName, ReadFault};
 use files::road_file::read_roads;
 use inputs::text_file::{print_fault, read_file};
@@ -37,6 +36,6 @@ fn main(rt: HostRuntime) -> anyhow::Result<()> {
     match answers(&rt) {
         Ok(answers) => Ok(print_answers(&rt, &answers)?),
         Err(ReadFault::InFile(fault)) => Ok(print_fault(&rt, fault)?),
-        Err(ReadFault::NoMemory) => Err(anyhow!("out of memory")),
+        Err(fault @ ReadFault::NoMemory) => Err(fault.into()),
     }
 }
