@@ -1,24 +1,12 @@
--- One name more of a names line.
-use Rattle.std.proofs.Common.{◌≡◌, ℕ, Bool, true, false, cond, eqb, List, [], ◌∷◌, length, Ok, Err, Option, Result, sym, refl, ap, ◌∙◌, subst, arith, eqb-true}
+-- What is known of a names line that passed.
+use Rattle.std.proofs.Common.{◌≡◌, ℕ, Bool, true, false, cond, eqb, List, [], length, Ok, Err, Option, sym, subst, eqb-true}
 use Rattle.std.proofs.lemmas.Bool.{and_parts}
 use Rattle.refusals.specs.declared.refusal.Refusal.TheVariants.{WrongNames}
-use Rattle.files.specs.declared.fault.LineFault.{LineFault}
 use Rattle.files.specs.declared.fault.LineFault.TheVariants.{WholeLine}
 use Rattle.files.specs.Faults.{then}
 use Rattle.files.specs.Fields.{parted, none_empty}
 use Rattle.files.specs.Names.{all_among, columns_named, complete, names_line}
 use Rattle.files.proofs.FirstFault.{then_ok, cond_ok, ok_no_err}
-
-module _ {C : Type 0} (named : List ℕ → Option C) where
-  pub none_left : (seen : List C) (fs : List (List ℕ)) → length fs ≡ 0 → columns_named named seen fs ≡ Ok seen
-  none_left seen [] e = refl
-  none_left seen (x ∷ fs) e = absurd (omega arith)
-
-  -- the whole names line, from the columns that it names
-  pub whole_line : (same : C → C → Bool) (all : List C) (fs : List (List ℕ)) (x : Result (List C) LineFault) → true ≡ parted (length all) fs → columns_named named [] fs ≡ x → names_line same named all fs ≡ then x (complete same all)
-  whole_line same all fs x t e =
-      ap (λ b. cond b (then (columns_named named [] fs) (complete same all)) (Err (WholeLine WrongNames))) (sym t)
-      ∙ ap (λ y. then y (complete same all)) e
 
 pub parted_long : (n : ℕ) (ps : List (List ℕ)) → true ≡ parted n ps → length ps ≡ n
 parted_long n ps e = eqb-true (length ps) n (and_parts (eqb (length ps) n) (none_empty ps) (sym e)).0

@@ -58,11 +58,10 @@ pub fn read_names<C: Column, const N: usize>(all: [C; N], line: &[u8]) -> Result
     if !is_parted(line, N) {
         return Err(wrong);
     }
-    let mut fields = FieldReader::new(line);
     let mut columns = all;
-    for column in columns.iter_mut() {
-        let name = fields.next().ok_or(wrong)?;
-        *column = C::from_name(name).ok_or(wrong)?;
+    // by place: after a zip with `columns.iter_mut()`, as tried, no proof knows what was written
+    for (place, name) in FieldReader::new(line).enumerate() {
+        columns[place] = C::from_name(name).ok_or(wrong)?;
     }
     if !are_all_among(&all, &columns) {
         return Err(wrong);

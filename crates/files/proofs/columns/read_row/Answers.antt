@@ -1,13 +1,10 @@
-use Rattle.std.proofs.Common.{◌≡◌, ◌+◌, true, cond, length, Ok, Err, sym, ap, ◌∙◌, ⊎_elim}
+use Rattle.std.proofs.Common.{◌≡◌, ◌+◌, Ok, sym, ◌∙◌, ⊎_elim}
 use Rattle.std.specs.Iterator.Adapters.{enumerate_source, enumerate_count, zip_first, zip_second}
 use Rattle.std.specs.Slice.Iter.{iter_rest}
-use Rattle.refusals.specs.declared.refusal.Refusal.TheVariants.{FieldCountDiffers}
-use Rattle.files.specs.declared.fault.LineFault.TheVariants.{WholeLine}
 use Rattle.files.specs.Lines.{pieces}
-use Rattle.files.specs.Fields.{parted}
 use Rattle.files.specs.FieldsLeft.{fields_left}
 use Rattle.files.specs.Values.{fields_filled}
-use Rattle.files.proofs.RowFilled.{no_column, no_field}
+use Rattle.files.proofs.RowFilled.{no_column, no_field, whole_row}
 use Rattle.files.proofs.columns.read_row.Goals as goal
 
 pub returns : goal.returns
@@ -18,8 +15,6 @@ returns g c =
     let cs = iter_rest (zip_first pairs) in
     let fs = fields_left (zip_second pairs) in
     let row = c.loop-before.row in
-    let t : true ≡ parted (length c.args.columns.now) (pieces 32 c.args.line.now) = c.if-not-is_parted.ensures in
     let filled : fields_filled fill n cs fs row ≡ Ok row =
     ⊎_elim (λ e. no_column fill n cs fs row e.1.0) (λ e. no_field fill n cs fs row e.1.0) c.in-None.ensures.steps.0 in
-    sym (ap (λ b. cond b (fields_filled fill 1 c.args.columns.now (pieces 32 c.args.line.now) c.args.blank) (Err (WholeLine FieldCountDiffers))) (sym t)
-    ∙ c.loop-before.invariant ∙ filled)
+    sym (whole_row fill c.args.columns.now c.args.blank (pieces 32 c.args.line.now) row c.if-not-is_parted.ensures (c.loop-before.invariant ∙ filled))
