@@ -18,9 +18,9 @@ use Rattle.charts.proofs.Theorems.{theorems}
 use Rattle.promises.specs.Numbers.{Numbers}
 use Rattle.promises.specs.StandsFor.{labels_of}
 use Rattle.promises.specs.Chart.{Charting, is_plain, begins_plain, chart_check, ChartAnswered, ChartPromise}
-use Rattle.promises.specs.Runs.{Call, History, Promise, Run}
+use Rattle.promises.specs.Runs.{Call, Promise}
 use Rattle.promises.specs.Runs.Run.{one_call_more}
-use Rattle.promises.specs.Law.{State, Keeps}
+use Rattle.promises.specs.Law.{State, EveryRunKeeps}
 use Rattle.promises.specs.ChartLaw.{trip_of, RowsTold, ToldByCharts, ProfileLaw}
 use Rattle.promises.proofs.ListedLabels.{label_0_is_the_departure}
 use Rattle.promises.proofs.Accounts.{Accounted}
@@ -88,5 +88,5 @@ told_by_charts q s o c g (lo, hi, p) = go c.answer p
 pub profile_law : ProfileLaw
 profile_law = every_run_keeps ToldByCharts told_by_charts
 
-pub one_call_keeps_with_charts : (h : History Profile) (c : Call Profile) (s s' : Numbers) → Promise c s s' → Run h s → Keeps ToldByCharts (c ∷ h)
-one_call_keeps_with_charts h c s s' promise run = profile_law (c ∷ h) s' (one_call_more h c s s' run promise)
+pub one_call_keeps_with_charts : (c : Call Profile) (s s' : Numbers) → Promise c s s' → EveryRunKeeps ToldByCharts s c
+one_call_keeps_with_charts c s s' promise h run = profile_law (c ∷ h) s' (one_call_more h c s s' run promise)

@@ -20,7 +20,7 @@ use Rattle.promises.specs.Trace.{trace_check, TraceAnswered, TracePromise, Trace
 use Rattle.promises.specs.Chart.{Charting, ChartPromise}
 use Rattle.promises.specs.Runs.{Call, History, Promise, Run}
 use Rattle.promises.specs.Runs.Run.{no_call_yet, one_call_more}
-use Rattle.promises.specs.Law.{State, Since, Among, Announced, AnnouncedTrace, AllAtTheGoalAnnounced, EndedOrFull, NoArrival, KnownOf, KnownAfter, Keeps}
+use Rattle.promises.specs.Law.{State, Since, Among, Announced, AnnouncedTrace, AllAtTheGoalAnnounced, EndedOrFull, NoArrival, KnownOf, KnownAfter, Keeps, EveryRunKeeps}
 use Rattle.promises.specs.Law.Since.{begun, advanced, traced, charted, begin_refused, advance_refused, left_by_other_loads}
 use Rattle.promises.proofs.Records.{take_stored, below_take, stored_some}
 use Rattle.promises.proofs.ListedLabels.{listed_is_unbeaten, first_at_the_goal_is_the_fastest}
@@ -109,5 +109,5 @@ pub law : (L : Type 0) → Law L
 law L = every_run_keeps NothingToldOfCharts (λ q s o x g p. tt)
 
 -- a call that does what it promises keeps the law
-pub one_call_keeps : {L : Type 0} (h : History L) (c : Call L) (s s' : Numbers) → Promise c s s' → Run h s → Keeps NothingToldOfCharts (c ∷ h)
-one_call_keeps {L} h c s s' promise run = law L (c ∷ h) s' (one_call_more h c s s' run promise)
+pub one_call_keeps : {L : Type 0} (c : Call L) (s s' : Numbers) → Promise c s s' → EveryRunKeeps NothingToldOfCharts s c
+one_call_keeps {L} c s s' promise h run = law L (c ∷ h) s' (one_call_more h c s s' run promise)

@@ -115,6 +115,10 @@ abbrev pub Keeps : {L : Type 0} → (Query L → State L → Charting → Type 0
 Keeps Told [] = Unit {0}
 Keeps {L} Told (c ∷ h) = ((q : Query L) (o : State L) → Since q o (c ∷ h) → KnownAfter q o × KnownOf Told q o c) × Keeps Told h
 
+-- each run that left the numbers s keeps the law once the call c follows it
+abbrev pub EveryRunKeeps : {L : Type 0} → (Query L → State L → Charting → Type 0) → Numbers → Call L → Type 0
+EveryRunKeeps {L} Told s c = (h : History L) → Run h s → Keeps Told (c ∷ h)
+
 abbrev pub NothingToldOfCharts : {L : Type 0} → Query L → State L → Charting → Type 0
 NothingToldOfCharts q o c = Unit {0}
 

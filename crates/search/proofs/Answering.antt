@@ -1,11 +1,10 @@
 -- Calls that do what they promise keep the law.
-use Rattle.std.proofs.Common.{◌≡◌, ℕ, ◌<◌, ◌≤◌, List, ◌∷◌, ◌++◌, length, take, drop, None, Ok, Err, Result, sym, refl, ap, ◌∙◌, subst, arith}
+use Rattle.std.proofs.Common.{◌≡◌, ℕ, ◌<◌, ◌≤◌, List, ◌++◌, length, take, drop, None, Ok, Err, Result, sym, refl, ap, ◌∙◌, subst, arith}
 use Rattle.std.proofs.lemmas.List.{take_at}
 use Rattle.refusals.specs.declared.refusal.Refusal.{Refusal}
 use Rattle.refusals.specs.declared.refusal.Refusal.TheVariants.{BufferTooShort}
 use Rattle.maps.specs.Rows.{Rows}
 use Rattle.loads.specs.Meaning.{Meaning}
-use Rattle.loads.specs.declared.profile.Profile.{Profile}
 use Rattle.front.specs.declared.label.Label.{Label}
 use Rattle.front.specs.declared.leg.Leg.{Leg}
 use Rattle.front.specs.Walks.{Query}
@@ -21,10 +20,9 @@ use Rattle.promises.specs.Begin.{BeginPromise}
 use Rattle.promises.specs.Advance.{AdvancePromise, Advanced, advance_check}
 use Rattle.promises.specs.Trace.{TracePromise, TraceAnswered, trace_check}
 use Rattle.promises.specs.Chart.{Charting, ChartPromise}
-use Rattle.promises.specs.Runs.{History, Run}
 use Rattle.promises.specs.Runs.Call.{begin, advance, trace}
 use Rattle.promises.specs.Runs.Call.{chart as chart_call}
-use Rattle.promises.specs.Law.{Keeps, NothingToldOfCharts}
+use Rattle.promises.specs.Law.{EveryRunKeeps, NothingToldOfCharts}
 use Rattle.promises.specs.ChartLaw.{ToldByCharts}
 use Rattle.promises.proofs.Records.{stored_some}
 use Rattle.promises.proofs.ListedLabels.{listed_has_a_traced_walk}
@@ -32,12 +30,12 @@ use Rattle.promises.proofs.LawKept.{one_call_keeps}
 use Rattle.promises.proofs.ChartsTold.{one_call_keeps_with_charts}
 
 pub begin_keeps : {L : Type 0} (q : Query L) (t : Tables L) (s s' : Numbers) (r : Result Standing Refusal) → BeginPromise q t s s' r →
-    record { promised : BeginPromise q t s s' r; every_run_with_this_call_keeps_the_law : (h : History L) → Run h s → Keeps NothingToldOfCharts (begin q t r ∷ h) }
-begin_keeps q t s s' r p = record { promised = p; every_run_with_this_call_keeps_the_law = λ h run. one_call_keeps h (begin q t r) s s' p run }
+    record { promised : BeginPromise q t s s' r; every_run_with_this_call_keeps_the_law : EveryRunKeeps NothingToldOfCharts s (begin q t r) }
+begin_keeps q t s s' r p = record { promised = p; every_run_with_this_call_keeps_the_law = one_call_keeps (begin q t r) s s' p }
 
 pub advance_keeps : {L : Type 0} (rows : Rows) (m : Meaning L) (budget : ℕ) (t : Tables L) (s s' : Numbers) (r : Result Progress Refusal) → AdvancePromise rows m budget t s s' r →
-    record { promised : AdvancePromise rows m budget t s s' r; every_run_with_this_call_keeps_the_law : (h : History L) → Run h s → Keeps NothingToldOfCharts (advance rows m budget t r ∷ h) }
-advance_keeps rows m budget t s s' r p = record { promised = p; every_run_with_this_call_keeps_the_law = λ h run. one_call_keeps h (advance rows m budget t r) s s' p run }
+    record { promised : AdvancePromise rows m budget t s s' r; every_run_with_this_call_keeps_the_law : EveryRunKeeps NothingToldOfCharts s (advance rows m budget t r) }
+advance_keeps rows m budget t s s' r p = record { promised = p; every_run_with_this_call_keeps_the_law = one_call_keeps (advance rows m budget t r) s s' p }
 
 -- an accepted advance of a search with the numbers s₀, which are s
 pub advance_accepts : {L : Type 0} (rows : Rows) (m : Meaning L) (n budget : ℕ) (t : Tables L) (s s₀ s' : Numbers) (p : Progress) → s₀ ≡ s → n ≡ length rows → None ≡ advance_check s n (length t.labels) (length t.waiting) budget → Advanced rows m budget t s s' p → AdvancePromise rows m budget t s₀ s' (Ok p)
@@ -46,8 +44,8 @@ advance_accepts rows m n budget t s s₀ s' p es en e x =
 
 -- trace
 pub trace_keeps : {L : Type 0} (n : ℕ) (ls : List (Label L)) (walk walk' : List (Leg L)) (s : Numbers) (r : Result ℕ Refusal) → TracePromise n ls walk walk' s r →
-    record { promised : TracePromise n ls walk walk' s r; every_run_with_this_call_keeps_the_law : (h : History L) → Run h s → Keeps NothingToldOfCharts (trace n ls walk walk' r ∷ h) }
-trace_keeps n ls walk walk' s r p = record { promised = p; every_run_with_this_call_keeps_the_law = λ h run. one_call_keeps h (trace n ls walk walk' r) s s (p, refl) run }
+    record { promised : TracePromise n ls walk walk' s r; every_run_with_this_call_keeps_the_law : EveryRunKeeps NothingToldOfCharts s (trace n ls walk walk' r) }
+trace_keeps n ls walk walk' s r p = record { promised = p; every_run_with_this_call_keeps_the_law = one_call_keeps (trace n ls walk walk' r) s s (p, refl) }
 
 -- what the links trace is the walk of the label
 module _ {L : Type 0} (n : ℕ) (ls : List (Label L)) (walk : List (Leg L)) (s : Numbers) (count : ℕ) (passed : trace_check s (length ls) n ≡ None) (inside : n < s.listed) (counted : (w : List (Leg L)) → Traces ls n w → count ≡ length w) where
@@ -85,5 +83,5 @@ module _ {L : Type 0} (n : ℕ) (ls : List (Label L)) (walk : List (Leg L)) (s :
       traced w t = let e = counted w t in ap (take count) (legs w t e) ∙ take_at w (drop (length w) walk) count (sym e)
 
 -- chart
-pub chart_keeps : (c : Charting) (s : Numbers) → ChartPromise c s → record { promised : ChartPromise c s; every_run_with_this_call_keeps_the_law : (h : History Profile) → Run h s → Keeps ToldByCharts (chart_call c ∷ h) }
-chart_keeps c s p = record { promised = p; every_run_with_this_call_keeps_the_law = λ h run. one_call_keeps_with_charts h (chart_call c) s s (p, refl) run }
+pub chart_keeps : (c : Charting) (s : Numbers) → ChartPromise c s → record { promised : ChartPromise c s; every_run_with_this_call_keeps_the_law : EveryRunKeeps ToldByCharts s (chart_call c) }
+chart_keeps c s p = record { promised = p; every_run_with_this_call_keeps_the_law = one_call_keeps_with_charts (chart_call c) s s (p, refl) }

@@ -1,5 +1,5 @@
 -- The queue's calls, as steps of a search.
-use Rattle.std.proofs.Common.{◌≡◌, ℕ, zero, suc, ◌+◌, ◌<◌, ◌≤◌, Bool, true, false, ◌⊎◌, List, [], ◌∷◌, length, take, Some, None, Ok, Err, Option, Result, sym, refl, ap, ◌∙◌, subst, inl, inr, ⊎_elim, arith, MatchResult}
+use Rattle.std.proofs.Common.{◌≡◌, ℕ, zero, suc, ◌+◌, ◌<◌, ◌≤◌, Bool, true, false, ◌⊎◌, List, [], ◌∷◌, take, Some, None, Option, sym, refl, ap, ◌∙◌, subst, inl, inr, ⊎_elim, arith}
 use Rattle.std.specs.List.Sorted.{IsPermutation}
 use Rattle.std.specs.List.{ContainsAt as Has}
 use Rattle.std.proofs.lemmas.List.Sorted.{IsPermutation-sym}
@@ -85,10 +85,6 @@ module _ {L : Type 0} where
   same_on h k l a b = record { same_lender = b.same_lender ∙ a.same_lender; same_length = b.same_length ∙ a.same_length }
 
   -- a push that has room is done
-  pub pushed : {A E : Type 0} (h k : Heap (Candidate L)) (e : Candidate L) (r : Result A E) → h.len < length (slots h) → MatchResult r (λ _. Pushed leaves_before h e k) (λ _. (h.len ≡ length (slots h)) × (k ≡ h)) → Pushed leaves_before h e k
-  pushed h k e (Ok a) room p = p
-  pushed h k e (Err f) room p = absurd (omega (arith, p.0, room))
-
   pub filling_some : (off : ℕ → Option (Candidate L)) (n : ℕ) (h₀ h k : Heap (Candidate L)) (e : Candidate L) → Filling off n h₀ h → OverSameSlice h k → Pushed leaves_before h e k → off n ≡ Some e → Filling off (n + 1) h₀ k
   filling_some off n h₀ h k e f t p o = record {
     over_the_same_slice = same_on h₀ h k f.over_the_same_slice t;

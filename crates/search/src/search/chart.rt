@@ -1,11 +1,9 @@
 //! The chart of a search over profiles: rows read off the labels in order.
-ghost use Rattle.std.specs.Prelude.{◌≡◌, ◌+◌, ◌≤◌, ◌∷◌, ◌++◌, length, drop};
+ghost use Rattle.std.specs.Prelude.{◌≡◌, ◌+◌, ◌≤◌, ◌++◌, length, drop};
 ghost use Rattle.std.specs.Iterator.{at_most, YieldsFirst};
-ghost use Rattle.loads.specs.declared.profile.Profile.{Profile as Load};
 ghost use Rattle.promises.specs.Chart.{ChartPromise, charting, begins_plain};
-ghost use Rattle.promises.specs.Runs.{History, Run};
 ghost use Rattle.promises.specs.Runs.Call.{chart as chart_call};
-ghost use Rattle.promises.specs.Law.{Keeps};
+ghost use Rattle.promises.specs.Law.{EveryRunKeeps};
 ghost use Rattle.promises.specs.ChartLaw.{ToldByCharts};
 ghost use Rattle.search.specs.SearchNumbers.{numbers};
 ghost use Rattle.charts.specs.Chart.{chart, gets_row, rows_from};
@@ -117,7 +115,7 @@ impl Search {
         rows: &mut [Row],
     ) -> Result<u32, Refusal>
         ensures promised { ChartPromise (charting kind.now.capacity.watt_hours labels.now rows.old rows.new result) (numbers self.now) }
-        ensures every_run_with_this_call_keeps_the_law { (h : History Load) → Run h (numbers self.now) → Keeps ToldByCharts (chart_call (charting kind.now.capacity.watt_hours labels.now rows.old rows.new result) ∷ h) }
+        ensures every_run_with_this_call_keeps_the_law { EveryRunKeeps ToldByCharts (numbers self.now) (chart_call (charting kind.now.capacity.watt_hours labels.now rows.old rows.new result)) }
     {
         let run = self.begun_with(labels.len())?;
         if !starts_plain(kind, labels) {

@@ -54,8 +54,7 @@ fn push_roads<M: Map, K: Kind>(
 {
     for place in 0..12 {
         if let Some(candidate) = follow(map, kind, from, number, place, deadline) {
-            // not refused: there is room for twelve
-            let _ = heap.push(candidate);
+            heap.push(candidate).unwrap();
         }
     }
 }

@@ -1,10 +1,9 @@
 //! The walk of a listed label, read back along the labels before it.
-ghost use Rattle.std.specs.Prelude.{◌≡◌, ◌<◌, ◌≤◌, List, ◌∷◌, ◌++◌, length, drop};
+ghost use Rattle.std.specs.Prelude.{◌≡◌, ◌<◌, ◌≤◌, List, ◌++◌, length, drop};
 ghost use Rattle.std.specs.Iterator.{at_most};
 ghost use Rattle.promises.specs.Trace.{TracePromise};
-ghost use Rattle.promises.specs.Runs.{History, Run};
 ghost use Rattle.promises.specs.Runs.Call.{trace as trace_call};
-ghost use Rattle.promises.specs.Law.{Keeps, NothingToldOfCharts};
+ghost use Rattle.promises.specs.Law.{EveryRunKeeps, NothingToldOfCharts};
 ghost use Rattle.search.specs.SearchNumbers.{numbers};
 ghost use Rattle.front.specs.Labels.{Traces};
 
@@ -77,7 +76,7 @@ impl Search {
         walk: &mut [Leg<L>],
     ) -> Result<u32, Refusal>
         ensures promised { TracePromise label labels.now walk.old walk.new (numbers self.now) result }
-        ensures every_run_with_this_call_keeps_the_law { (h : History L) → Run h (numbers self.now) → Keeps NothingToldOfCharts (trace_call label labels.now walk.old walk.new result ∷ h) }
+        ensures every_run_with_this_call_keeps_the_law { EveryRunKeeps NothingToldOfCharts (numbers self.now) (trace_call label labels.now walk.old walk.new result) }
     {
         let run = self.begun_with(labels.len())?;
         if label >= run.listed {

@@ -3,9 +3,8 @@ ghost use Rattle.std.specs.Prelude.{◌≡◌, ◌+◌, ◌<◌, ◌≤◌, ◌�
 ghost use Rattle.std.specs.Result.{result_err};
 ghost use Rattle.promises.specs.Numbers.{tables};
 ghost use Rattle.promises.specs.Advance.{AdvancePromise, advance_check};
-ghost use Rattle.promises.specs.Runs.{History, Run};
 ghost use Rattle.promises.specs.Runs.Call.{advance as advance_call};
-ghost use Rattle.promises.specs.Law.{Keeps, NothingToldOfCharts};
+ghost use Rattle.promises.specs.Law.{EveryRunKeeps, NothingToldOfCharts};
 ghost use Rattle.search.specs.SearchNumbers.{numbers, underway_numbers};
 ghost use Rattle.search.specs.Turns.{Turned, Lists};
 ghost use Rattle.queue.specs.Heaps.{Least};
@@ -72,7 +71,7 @@ impl Underway {
         if junctions != self.junctions || labels != self.room as usize || waiting != self.width {
             return Err(Refusal::NotAsBegun);
         }
-        if budget == 0 || budget > 65_535 {
+        if !(1..=65_535).contains(&budget) {
             return Err(Refusal::BudgetOutOfRange);
         }
         Ok(())
@@ -129,8 +128,7 @@ impl Underway {
             return Some(Standing::Ended);
         };
         if self.listed == self.room {
-            // not refused: it left room behind
-            let _ = heap.push(candidate);
+            heap.push(candidate).unwrap();
             self.waiting = heap.len();
             return Some(Standing::Full);
         }
@@ -149,11 +147,9 @@ impl Search {
         budget: u32,
     ) -> Result<Progress, Refusal>
         ensures promised { AdvancePromise (M.Map.rows map.now) (K.Kind.meaning kind.now) budget (tables labels.old waiting.old labels.new waiting.new) (numbers self.old) (numbers self.new) result }
-        ensures every_run_with_this_call_keeps_the_law { (h : History (K.Load)) → Run h (numbers self.old) → Keeps NothingToldOfCharts (advance_call (M.Map.rows map.now) (K.Kind.meaning kind.now) budget (tables labels.old waiting.old labels.new waiting.new) result ∷ h) }
+        ensures every_run_with_this_call_keeps_the_law { EveryRunKeeps NothingToldOfCharts (numbers self.old) (advance_call (M.Map.rows map.now) (K.Kind.meaning kind.now) budget (tables labels.old waiting.old labels.new waiting.new) result) }
     {
-        let Some(run) = &mut self.run else {
-            return Err(Refusal::NotBegun);
-        };
+        let run = self.run.as_mut().ok_or(Refusal::NotBegun)?;
         run.check_advance(map.junctions(), labels.len(), waiting.len(), budget)?;
         let before = run.listed;
         for _ in 0..budget {

@@ -1,11 +1,10 @@
 //! Making a search, and beginning it.
-ghost use Rattle.std.specs.Prelude.{◌≡◌, ◌∷◌, length};
+ghost use Rattle.std.specs.Prelude.{◌≡◌, length};
 ghost use Rattle.std.specs.Result.{result_err};
 ghost use Rattle.promises.specs.Numbers.{new_numbers, tables};
 ghost use Rattle.promises.specs.Begin.{BeginPromise, begin_check, query};
-ghost use Rattle.promises.specs.Runs.{History, Run};
 ghost use Rattle.promises.specs.Runs.Call.{begin as begin_call};
-ghost use Rattle.promises.specs.Law.{Keeps, NothingToldOfCharts};
+ghost use Rattle.promises.specs.Law.{EveryRunKeeps, NothingToldOfCharts};
 ghost use Rattle.search.specs.SearchNumbers.{numbers};
 
 use super::push_roads;
@@ -43,7 +42,7 @@ fn check_begin<M: Map, K: Kind>(
     if trip.deadline > 999_999 {
         return Err(Refusal::DeadlineTooLate);
     }
-    if labels == 0 || labels > 65_535 {
+    if !(1..=65_535).contains(&labels) {
         return Err(Refusal::LabelTableSize);
     }
     if waiting < 12 * labels {
@@ -71,7 +70,7 @@ impl Search {
         waiting: &mut [Candidate<K::Load>],
     ) -> Result<Standing, Refusal>
         ensures promised { BeginPromise (query (M.Map.rows map.now) (K.Kind.meaning kind.now) trip.start trip.load trip.goal trip.deadline) (tables labels.old waiting.old labels.new waiting.new) (numbers self.old) (numbers self.new) result }
-        ensures every_run_with_this_call_keeps_the_law { (h : History (K.Load)) → Run h (numbers self.old) → Keeps NothingToldOfCharts (begin_call (query (M.Map.rows map.now) (K.Kind.meaning kind.now) trip.start trip.load trip.goal trip.deadline) (tables labels.old waiting.old labels.new waiting.new) result ∷ h) }
+        ensures every_run_with_this_call_keeps_the_law { EveryRunKeeps NothingToldOfCharts (numbers self.old) (begin_call (query (M.Map.rows map.now) (K.Kind.meaning kind.now) trip.start trip.load trip.goal trip.deadline) (tables labels.old waiting.old labels.new waiting.new) result) }
     {
         let room = labels.len();
         let width = waiting.len();

@@ -1,8 +1,7 @@
-use Rattle.std.proofs.Common.{◌≡◌, ◌<◌, length, take, sym, refl, ap, arith, rules}
-use Rattle.queue.specs.Waiting.{slots}
+use Rattle.std.proofs.Common.{◌≡◌, ◌<◌, take, sym, refl, arith, rules}
 use Rattle.search.specs.SearchNumbers.{underway_numbers}
 use Rattle.search.specs.Steps.{EachServed}
-use Rattle.search.proofs.Queueing.{pushed, waits}
+use Rattle.search.proofs.Queueing.{waits}
 use Rattle.search.proofs.Stepping.{turn_ended, turn_full, turn_listed}
 use Rattle.search.proofs.search.Underway.turn.Goals as goal
 
@@ -20,9 +19,8 @@ returns-then-self g c =
     let s = c.args.self.now in let h₀ = c.over-heap.result in let h = c.take_next.new.heap in
     let t = c.in-Some.ensures in
     let el : h₀.len ≡ s.waiting = omega (arith, c.over-heap.ensures.count_clamped_to_the_slice, s.sized, c.requires) in
-    let room : h.len < length (slots h) = omega (arith, t.taken.0, el, t.over_the_same_slice.same_length, ap length c.over-heap.ensures.holds_what_the_slice_held, s.sized, c.requires) in
     turn_full rows m c.args.labels.now c.args.waiting.now (underway_numbers s) _ s.sized.0 h₀ h el c.over-heap.ensures.holds_what_the_slice_held c.in-Some.candidate t.taken.0 t.taken.1 t.keeps_heap_order t.least _ c.push.new.self (sym c.len-self.ensures) (search rules) (search rules)
-    (record { begun = refl; junctions = refl; goal = refl; deadline = refl; room = refl; width = refl }) refl c.if-self.true (pushed h c.push.new.self c.in-Some.candidate c.push.result room c.push.ensures.adds_the_entry_unless_full)
+    (record { begun = refl; junctions = refl; goal = refl; deadline = refl; room = refl; width = refl }) refl c.if-self.true (search rules)
 
 pub returns : goal.returns
 returns g c =
