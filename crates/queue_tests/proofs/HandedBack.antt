@@ -1,5 +1,5 @@
 -- A slice that one queue hands back and another is made over: what it holds at the end.
-use Rattle.std.proofs.Common.{◌≡◌, ℕ, ◌+◌, ◌<◌, min, Bool, false, List, ◌∷◌, length, take, drop, IsSomeAnd, Some, None, Ok, Err, Option, Result, sym, ap, ◌∙◌, subst, arith, MatchOption, MatchResult}
+use Rattle.std.proofs.Common.{◌≡◌, ℕ, ◌+◌, ◌<◌, min, Bool, false, List, ◌∷◌, length, take, drop, IsSomeAnd, Some, None, Option, sym, ap, ◌∙◌, subst, arith, MatchOption}
 use Rattle.std.specs.List.Sorted.{IsPermutation}
 use Rattle.std.proofs.lemmas.List.{drop-drop}
 use Rattle.std.proofs.lemmas.List.Sorted.{IsPermutation-trans, IsPermutation-sym}
@@ -12,13 +12,12 @@ module _ {X : Type 0} (before : X → X → Bool) where
   heaped_of_equal : {xs ys : List X} {m n : ℕ} → xs ≡ ys → m ≡ n → Heaped before xs m → Heaped before ys n
   heaped_of_equal {xs} {ys} {m} {n} p q h = subst (λ (l : List X). Heaped before l n) p (subst (λ (k : ℕ). Heaped before xs k) q h)
 
-  pub exchanged_for_the_least : {A F : Type 0} (n : ℕ) (ws zs : List X) (e : X) (h k l m : Heap X) (pushed : Result A F) (popped : Option X) → n < length ws
-      → slots h ≡ ws → h.len ≡ min n (length ws) → length (slots k) ≡ length (slots h) → MatchResult pushed (λ _. Pushed before h e k) (λ _. (h.len ≡ length (slots h)) × (k ≡ h))
+  pub exchanged_for_the_least : (n : ℕ) (ws zs : List X) (e : X) (h k l m : Heap X) (popped : Option X) → n < length ws
+      → slots h ≡ ws → h.len ≡ min n (length ws) → length (slots k) ≡ length (slots h) → Pushed before h e k
       → slots l ≡ slots k → l.len ≡ min k.len (length (slots k)) → MatchOption popped ((l.len ≡ 0) × (m ≡ l)) (λ x. Popped before l x m) → zs ≡ slots m
       → record { exchanges_one_entry : IsSomeAnd popped (λ x. IsPermutation (e ∷ take n ws) (x ∷ take n zs)); none_comes_before_it : IsSomeAnd popped (λ x. Heaped before ws n → Least before x (e ∷ take n ws)); keeps_heap_order : Heaped before ws n → Heaped before zs n; rest_untouched : drop (n + 1) zs ≡ drop (n + 1) ws }
-  exchanged_for_the_least n ws zs e h k l m (Err full) popped room hw hn kn (at_end, same) lw ln out zw = absurd (omega (arith, at_end, ap length hw))
-  exchanged_for_the_least n ws zs e h k l m (Ok done) None room hw hn kn p lw ln (none, same) zw = absurd (omega (arith, none, p.counts_one_more, p.had_room))
-  exchanged_for_the_least n ws zs e h k l m (Ok done) (Some x) room hw hn kn p lw ln q zw =
+  exchanged_for_the_least n ws zs e h k l m None room hw hn kn p lw ln (none, same) zw = absurd (omega (arith, none, p.counts_one_more, p.had_room))
+  exchanged_for_the_least n ws zs e h k l m (Some x) room hw hn kn p lw ln q zw =
       let long = ap length hw in
       let h_len : h.len ≡ n = omega (arith, long) in
       let l_len : l.len ≡ k.len = omega (arith, long, p.counts_one_more) in
