@@ -99,9 +99,9 @@ fn arrival(time: u32, level: u32, junction: u32) -> Arrival<Charge> {
 // A search of the worked map with five labels, after three advances.
 fn listed(heap: Global) -> Result<SearchOnMap<ChargeKind>, Fail> {
     let mut search = charges_on_worked_map(heap, 5, 60)?;
-    let _ = search.begin(trip(0, FULL, 3, 999));
+    search.begin(trip(0, FULL, 3, 999))?;
     for _ in 0..3 {
-        let _ = search.advance(100);
+        search.advance(100)?;
     }
     Ok(search)
 }
@@ -139,14 +139,15 @@ fn a_gaining_loop_is_driven_until_the_charge_suffices(rt: HostRuntime) -> Result
     let kind = ChargeKind::new(1_000)?;
     let map = map_with_a_gaining_loop()?;
     let mut search = SearchOnMap::new(rt.alloc(), map, kind, charge(77), 20, 240)?;
-    let _ = search.begin(trip(0, charge(100), 1, 999));
+    search.begin(trip(0, charge(100), 1, 999))?;
     assert_eq!(rt;
         search.advance(100),
         Ok(progress(Standing::Arrived(5), 5, 6))
     );
-    for label in search.labels.iter().skip(5).take(1) {
-        assert_eq!(rt; label.arrival, arrival(20, 50, 1));
-    }
+    assert_eq!(rt;
+        search.labels.get(5).map(|label| label.arrival),
+        Some(arrival(20, 50, 1))
+    );
     Ok(())
 }
 
@@ -154,7 +155,7 @@ fn a_gaining_loop_is_driven_until_the_charge_suffices(rt: HostRuntime) -> Result
 fn a_used_search_begins_afresh(rt: HostRuntime) -> Result<(), Fail> {
     let mut search = charges_on_worked_map(rt.alloc(), 5, 60)?;
     assert_eq!(rt; search.begin(trip(0, FULL, 3, 999)), Ok(Standing::Paused));
-    let _ = search.advance(2);
+    search.advance(2)?;
     assert_eq!(rt; search.begin(trip(2, FULL, 2, 0)), Ok(Standing::Arrived(0)));
     assert_eq!(rt; search.advance(100), Ok(progress(Standing::Ended, 0, 1)));
     assert_eq!(rt; search.begin(trip(2, FULL, 3, 999)), Ok(Standing::Paused));

@@ -29,9 +29,9 @@ fn on_worked_map(heap: Global) -> Result<SearchOnMap<ProfileKind>, Fail> {
 }
 
 // Begins a search from the kind's plain profile.
-fn begin(search: &mut SearchOnMap<ProfileKind>) {
+fn begin(search: &mut SearchOnMap<ProfileKind>) -> Result<Standing, Refusal> {
     let load = search.kind.plain();
-    let _ = search.begin(trip(0, load, 3, 999));
+    search.begin(trip(0, load, 3, 999))
 }
 
 #[test]
@@ -39,7 +39,7 @@ fn a_chart_tells_the_least_times_of_all_charges(rt: HostRuntime) -> Result<(), F
     let heap = rt.alloc();
     let mut on_map = on_worked_map(heap)?;
     let mut rows = vec![in heap; row(77, 77, 77); 3]?;
-    begin(&mut on_map);
+    begin(&mut on_map)?;
     assert_eq!(rt;
         on_map.search.chart(&on_map.kind, &on_map.labels, &mut rows),
         Ok(0)
@@ -71,9 +71,9 @@ fn a_chart_refuses_other_labels_kinds_and_short_buffers(rt: HostRuntime) -> Resu
     let mut rows = vec![in heap; row(77, 77, 77); 1]?;
     let early = on_map.search.chart(&on_map.kind, &on_map.labels, &mut rows);
     assert_eq!(rt; early.map_err(Refusal::number), Err(31));
-    begin(&mut on_map);
-    let _ = on_map.advance(100);
-    let _ = on_map.advance(100);
+    begin(&mut on_map)?;
+    on_map.advance(100)?;
+    on_map.advance(100)?;
     let search = &on_map.search;
     let other_labels = search.chart(&on_map.kind, &shorter, &mut rows);
     assert_eq!(rt; other_labels.map_err(Refusal::number), Err(32));

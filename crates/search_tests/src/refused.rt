@@ -49,7 +49,7 @@ fn begin_refuses_by_the_first_check_that_fails(rt: HostRuntime) -> Result<(), Fa
 // A search of the worked map that has begun, with five labels.
 fn begun(heap: Global) -> Result<SearchOnMap<ChargeKind>, Fail> {
     let mut search = charges_on_worked_map(heap, 5, 60)?;
-    let _ = search.begin(trip(0, charge(1_000), 3, 999));
+    search.begin(trip(0, charge(1_000), 3, 999))?;
     Ok(search)
 }
 
@@ -103,7 +103,7 @@ fn trace_refuses_other_labels_and_short_buffers(rt: HostRuntime) -> Result<(), F
     assert_eq!(rt; other_labels.map_err(Refusal::number), Err(32));
     let not_listed = on_map.search.trace(&on_map.labels, 1, &mut walk);
     assert_eq!(rt; not_listed.map_err(Refusal::number), Err(33));
-    let _ = on_map.advance(100);
+    on_map.advance(100)?;
     let short = on_map.search.trace(&on_map.labels, 3, &mut walk);
     assert_eq!(rt; short, Err(Refusal::BufferTooShort(2)));
     assert_eq!(rt; walk.as_slice(), [unwritten].as_slice());

@@ -28,6 +28,7 @@ fn starts_plain(kind: &ProfileKind, labels: &[Label<Profile>]) -> bool
 struct ChartRows<'a> {
     // the labels that are left, and the number of the first of them
     labels: &'a [Label<Profile>],
+    // counted here in u32, as a row tells it: `enumerate` counts in usize, and each row would cast its number
     number: u32,
     goal: u32,
     // the need to which the rows before have come down
@@ -100,6 +101,7 @@ fn write_rows(labels: &[Label<Profile>], goal: u32, rows: &mut [Row])
     requires { (length labels.now ≤ 65535) × (length (chart goal labels.now) ≤ length rows.old) }
     ensures { rows.new ≡ chart goal labels.now ++ drop (length (chart goal labels.now)) rows.old }
 {
+    // By index: after a loop over iter_mut a proof knows the length alone.
     for (i, row) in ChartRows::new(labels, goal).enumerate() {
         rows[i] = row;
     }

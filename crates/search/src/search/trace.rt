@@ -62,6 +62,7 @@ fn write_walk<L: Copy>(labels: &[Label<L>], label: u32, count: u32, walk: &mut [
     ensures later_untouched { drop count walk.new ≡ drop count walk.old }
     ensures legs { (w : List (Leg L)) → Traces labels.now label w → count ≡ length w → walk.new ≡ w ++ drop (length w) walk.old }
 {
+    // By index: after a loop over iter_mut a proof knows the length alone.
     for (i, leg) in (0..count as usize).rev().zip(LegsBack { labels, label }) {
         walk[i] = leg;
     }

@@ -18,6 +18,7 @@ use promises::standing::Standing;
 use promises::trip::Trip;
 use queue::Heap;
 use refusals::refusal::Refusal;
+use walks::trial::LATEST_DEADLINE;
 
 // The first check that a beginning fails.
 fn check_begin<M: Map, K: Kind>(
@@ -39,7 +40,7 @@ fn check_begin<M: Map, K: Kind>(
     if !kind.admits(trip.load) {
         return Err(Refusal::StartLoadNotAdmitted);
     }
-    if trip.deadline > 999_999 {
+    if trip.deadline > LATEST_DEADLINE {
         return Err(Refusal::DeadlineTooLate);
     }
     if !(1..=65_535).contains(&labels) {
