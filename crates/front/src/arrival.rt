@@ -1,7 +1,7 @@
 //! Where a drivable walk arrives.
 
 /// A junction, and the time and load with which a drivable walk reaches it.
-#[derive(Clone, Copy, PartialEq, Eq, Debug)]
+#[derive(Clone, Copy, Default, PartialEq, Eq, Debug)]
 pub struct Arrival<L> {
     /// The junction reached.
     pub junction: u32,

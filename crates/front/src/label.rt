@@ -2,7 +2,7 @@
 use crate::arrival::Arrival;
 
 /// An arrival and the road by which it came: label 0 is the empty walk, and every other one names a label before it.
-#[derive(Clone, Copy, PartialEq, Eq, Debug)]
+#[derive(Clone, Copy, Default, PartialEq, Eq, Debug)]
 pub struct Label<L> {
     /// Where its walk arrives.
     pub arrival: Arrival<L>,

@@ -10,7 +10,7 @@ use maps::road::Road;
 use refusals::refusal::Refusal;
 
 /// The charge of a battery. From 0 to 100,000 it is a load; other numbers are none.
-#[derive(Clone, Copy, PartialEq, Eq, Debug)]
+#[derive(Clone, Copy, Default, PartialEq, Eq, Debug)]
 pub struct Charge {
     pub level: u32,
 }
