@@ -68,7 +68,6 @@ fn told_by(search: &Search, labels: &[Label<Charge>], standing: Standing) -> Ans
 }
 
 // Searches until it arrives, ends or is full.
-#[tactic(auto, using(crate::proofs::Concluding::so_at_the_start))]
 fn answer_with<M: Map>(
     map: &M,
     kind: &ChargeKind,
@@ -87,17 +86,14 @@ fn answer_with<M: Map>(
         deadline: question.deadline,
     };
     let mut search = Search::new();
-    search.begin(map, kind, trip, labels, waiting)?;
-    if question.start == question.goal {
-        return Ok(Answer::Route(Route {
-            seconds: 0,
-            charge: question.charge,
-            roads: 0,
-        }));
-    }
-    let budget = labels.len().min(65_535) as u32;
-    let progress = search.advance(map, kind, labels, waiting, budget)?;
-    Ok(told_by(&search, labels, progress.standing))
+    let standing = match search.begin(map, kind, trip, labels, waiting)? {
+        Standing::Paused => {
+            let budget = labels.len().min(65_535) as u32;
+            search.advance(map, kind, labels, waiting, budget)?.standing
+        }
+        begun => begun,
+    };
+    Ok(told_by(&search, labels, standing))
 }
 
 /// Answers a question on a map, with the lent tables. Refuses the heater's power, then the capacity,
