@@ -5,9 +5,7 @@ ghost use Rattle.office.specs.Answers.{EachAnswered, FilesAnswered};
 use files::fault::ReadFault;
 use files::queries::read_queries;
 use files::road_file::read_roads;
-use front::arrival::Arrival;
 use front::label::Label;
-use loads::charge::Charge;
 use maps::Map;
 use maps::table::TableMap;
 use planner::answer::{Answer, Question, answer_question};
@@ -15,27 +13,14 @@ use promises::candidate::Candidate;
 use refusals::refusal::Refusal;
 use std::alloc::{AllocError, Global};
 
-/// The junctions, labels and waiting records that there is room for.
+/// How many junctions a road file may have.
 pub const JUNCTIONS: u32 = 256;
 
+/// How many labels there is room for.
 pub const LABELS: usize = 100;
 
-pub const WAITING: usize = 1_200;
-
-const BLANK_LABEL: Label<Charge> = Label {
-    arrival: Arrival {
-        junction: 0,
-        time: 0,
-        load: Charge { level: 0 },
-    },
-    before: 0,
-    place: 0,
-};
-
-const BLANK_CANDIDATE: Candidate<Charge> = Candidate {
-    label: BLANK_LABEL,
-    rank: 0,
-};
+/// How many waiting records there is room for: twelve for each label.
+pub const WAITING: usize = 12 * LABELS;
 
 // The answers to the questions on a map, in order.
 #[tactic(auto, using(crate::proofs::Answering::next_is_answered))]
@@ -46,8 +31,8 @@ fn answer_all<M: Map + Copy>(
 ) -> Result<Vec<Result<Answer, Refusal>>, AllocError>
     ensures { IfOk result (λ v. EachAnswered (M.Map.rows map) questions.now v.items) }
 {
-    let mut labels = vec![in heap; BLANK_LABEL; LABELS]?;
-    let mut waiting = vec![in heap; BLANK_CANDIDATE; WAITING]?;
+    let mut labels = vec![in heap; Label::default(); LABELS]?;
+    let mut waiting = vec![in heap; Candidate::default(); WAITING]?;
     let mut answers = Vec::new(heap);
     for question in questions {
         answers.push(answer_question(map, *question, &mut labels, &mut waiting))?;
