@@ -44,5 +44,15 @@ table_refusal counts heads times draws =
     (or_else (first_failure (count_fault counts) (length counts))
     (first_failure (entry_fault counts heads times draws) (12 * length counts)))
 
+-- the same of tables as they are lent
+abbrev pub tables_rows : Tables → Rows
+tables_rows t = table_rows t.counts.now t.heads.now t.times.now t.draws.now
+
+abbrev pub tables_lengths_fault : Tables → Option Refusal
+tables_lengths_fault t = lengths_fault t.counts.now t.heads.now t.times.now t.draws.now
+
+abbrev pub tables_entry_fault : Tables → ℕ → Option Refusal
+tables_entry_fault t i = entry_fault t.counts.now t.heads.now t.times.now t.draws.now i
+
 abbrev pub tables_refusal : Tables → Option Refusal
 tables_refusal t = table_refusal t.counts.now t.heads.now t.times.now t.draws.now

@@ -15,6 +15,7 @@ pub struct ShutPlace {
 #[derive(Drop)]
 pub struct Closures<M> {
     below: M,
+    // A fixed array, and no set: a map takes no memory of its own.
     entries: [Option<ShutPlace>; 64],
     ghost once: { NoneTwice entries },
 }

@@ -32,16 +32,16 @@ impl Power {
         }
         Ok(Power { watts })
     }
-}
 
-// What a road becomes under a heater, or none where its draw would pass 100,000.
-fn heat(power: u32, road: Road) -> Option<Road>
-    requires { (power ≤ 6000) × ((road.seconds ≤ 7200) × ((negsuc 99999 ≤ℤ road.draw) × (road.draw ≤ℤ pos 100000))) }
-    ensures { result ≡ heated_road power road }
-{
-    let extra = (power * road.seconds + 3_599) / 3_600;
-    let draw = road.draw + extra as i32;
-    (draw <= 100_000).then_some(Road { draw, ..road })
+    // What a road becomes under a heater of this power, or none where its draw would pass 100,000.
+    fn heat(self, road: Road) -> Option<Road>
+        requires { (road.seconds ≤ 7200) × (negsuc 99999 ≤ℤ road.draw) × (road.draw ≤ℤ pos 100000) }
+        ensures { result ≡ heated_road self.watts road }
+    {
+        let extra = (self.watts * road.seconds).div_ceil(3_600);
+        let draw = road.draw + extra as i32;
+        (draw <= 100_000).then_some(Road { draw, ..road })
+    }
 }
 
 impl<M: Map + Drop> Heater<M> {
@@ -64,6 +64,6 @@ impl<M: Map> Map for Heater<M> {
 
     fn place(&self, junction: u32, place: u32) -> Result<Option<Road>, Refusal> {
         let road = self.below.place(junction, place)?;
-        Ok(road.and_then(|road| heat(self.power.watts, road)))
+        Ok(road.and_then(|road| self.power.heat(road)))
     }
 }

@@ -14,6 +14,9 @@ pub mod heater;
 pub mod road;
 pub mod table;
 
+/// The most junctions that a map has.
+pub const MOST_JUNCTIONS: u32 = 9_600;
+
 /// Every make of map answers two questions; a question alters nothing.
 pub trait Map {
     // what the map means: its rows, one for each junction, of twelve places each

@@ -3,16 +3,16 @@ ghost use Rattle.std.specs.Prelude.{◌≡◌, ◌*◌, ◌<◌, ◌≤◌, fals
 ghost use Rattle.std.specs.List.{list_any};
 ghost use Rattle.std.specs.Result.{result_err};
 ghost use Rattle.maps.specs.FirstFailure.{first_failure};
-ghost use Rattle.maps.specs.Table.{table_rows, tables_refusal, lengths_fault, count_fault, entry_fault, road_fault};
+ghost use Rattle.maps.specs.Table.{count_fault, road_fault, tables_rows, tables_refusal, tables_lengths_fault, tables_entry_fault};
 ghost use Rattle.maps.specs.TableSound.{table_sound};
 
 use crate::road::Road;
-use crate::{Map, check_place};
+use crate::{MOST_JUNCTIONS, Map, check_place};
 use refusals::refusal::Refusal;
 
-// The tables are lent as slices, since no heap is used: a table of records would have to be copied into.
 /// Four tables that make a map: place `k` of junction `v` is entry `12 * v + k` of the last three where
 /// `k` is below the junction's count, and is empty otherwise.
+// Slices side by side, and no slice of records: the tables are lent in this form.
 #[derive(Clone, Copy)]
 pub struct Tables<'a> {
     pub counts: &'a [u32],
@@ -46,19 +46,12 @@ impl Road {
     }
 }
 
-// Whether a junction has more than twelve roads.
-fn any_above_twelve(counts: &[u32]) -> bool
-    ensures { result ≡ list_any (nat_lt 12) counts.now }
-{
-    counts.iter().any(|count| *count > 12)
-}
-
 impl Tables<'_> {
     fn check_lengths(self) -> Result<(), Refusal>
-        ensures { result_err result ≡ lengths_fault self.entry.counts.now self.entry.heads.now self.entry.times.now self.entry.draws.now }
+        ensures { result_err result ≡ tables_lengths_fault self.entry }
     {
         let n = self.counts.len();
-        if n > 9_600
+        if n > MOST_JUNCTIONS as usize
             || self.heads.len() != 12 * n
             || self.times.len() != 12 * n
             || self.draws.len() != 12 * n
@@ -71,7 +64,7 @@ impl Tables<'_> {
     fn check_counts(self) -> Result<(), Refusal>
         ensures { result_err result ≡ first_failure (count_fault self.entry.counts.now) (length self.entry.counts.now) }
     {
-        if any_above_twelve(self.counts) {
+        if self.counts.iter().any(|count| *count > 12) {
             return Err(Refusal::CountAboveTwelve);
         }
         Ok(())
@@ -94,8 +87,8 @@ impl Tables<'_> {
     // Checks every road, in the order of the entries.
     // The loop goes by the entry's number, which three tables share and from which its junction follows.
     fn check_roads(self) -> Result<(), Refusal>
-        requires { lengths_fault self.counts.now self.heads.now self.times.now self.draws.now ≡ None }
-        ensures { result_err result ≡ first_failure (entry_fault self.entry.counts.now self.entry.heads.now self.entry.times.now self.entry.draws.now) (12 * length self.entry.counts.now) }
+        requires { tables_lengths_fault self ≡ None }
+        ensures { result_err result ≡ first_failure (tables_entry_fault self.entry) (12 * length self.entry.counts.now) }
     {
         for entry in 0..12 * self.counts.len() {
             if entry % 12 < self.counts[entry / 12] as usize {
@@ -150,7 +143,7 @@ impl<'a> TableMap<'a> {
 }
 
 impl Map for TableMap<'_> {
-    ghost rows = { λ m. table_rows m.tables.counts.now m.tables.heads.now m.tables.times.now m.tables.draws.now };
+    ghost rows = { λ m. tables_rows m.tables };
 
     ghost sound = { λ m. table_sound m.tables.counts.now m.tables.heads.now m.tables.times.now m.tables.draws.now m.checked };
 

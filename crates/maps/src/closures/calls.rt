@@ -49,6 +49,7 @@ impl<M: Map + Drop> Closures<M> {
             return Err(Refusal::PlaceAlreadyShut);
         }
         let free = self.find(None).ok_or(Refusal::SixtyFourShut)?;
+        // An entry is changed through a method of its own alone.
         self.entries[free].replace(ShutPlace { junction, place });
         Ok(())
     }
@@ -64,6 +65,7 @@ impl<M: Map + Drop> Closures<M> {
         let shut = self
             .find(Some(ShutPlace { junction, place }))
             .ok_or(Refusal::PlaceNotShut)?;
+        // An entry is changed through a method of its own alone.
         self.entries[shut].take();
         Ok(())
     }

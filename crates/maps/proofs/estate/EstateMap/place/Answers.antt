@@ -9,7 +9,7 @@ at-requires c = rw length_tabulated at (rw c.junctions.ensures at c.in_ok-check_
 
 pub returns : goal.returns
 returns c =
-    let m = c.args.self.now in
+    let numbers = c.args.self.now.numbers in
     let asked = c.in_ok-check_place.ensures.accepted_on_the_map in
-    tabulated_found (m.width * m.height) (estate_place m.width m.height m.seconds m.flat m.rise) c.args.junction c.args.place c.at.result
+    tabulated_found (numbers.width * numbers.height) (estate_place numbers) c.args.junction c.args.place c.at.result
     (rw length_tabulated at (rw c.junctions.ensures at asked.0)) asked.1 c.at.ensures

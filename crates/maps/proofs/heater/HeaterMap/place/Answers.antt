@@ -14,7 +14,7 @@ pub and_then-requires : goal.and_then-requires
 and_then-requires g c =
     λ road is _ _ _ _ _.
     let fits = (g.M.Map.sound c.args.self.now.below).fits c.args.junction c.args.place road (answered_at _ _ _ _ c.in_ok-road.ensures ∙ is) in
-    (c.args.self.now.power.limited, (fits.most, (fits.low, fits.high)))
+    (fits.most, fits.low, fits.high)
 
 heats : (power : ℕ) (o r : Option Road) → MatchOption o (r ≡ None) (λ road. r ≡ heated_road power road) → r ≡ heated power o
 heats power None r h = h
