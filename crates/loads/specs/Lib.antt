@@ -1,3 +1,4 @@
+pub mod Capacity
 pub mod Meaning
 pub mod Laws
 pub mod Charge

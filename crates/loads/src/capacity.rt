@@ -1,6 +1,6 @@
 //! The capacity of a battery: what every kind of load stays within.
-ghost use Rattle.std.specs.Prelude.{◌≡◌, ◌≤◌, MatchResult};
-ghost use Rattle.refusals.specs.declared.refusal.Refusal.TheVariants.{CapacityOutOfRange};
+ghost use Rattle.std.specs.Prelude.{◌≡◌, ◌≤◌};
+ghost use Rattle.loads.specs.Capacity.{AcceptsCapacity};
 
 use refusals::refusal::Refusal;
 
@@ -14,7 +14,7 @@ pub struct Capacity {
 impl Capacity {
     /// The capacity of so many watt-hours; refuses one that is out of range.
     pub fn new(watt_hours: u32) -> Result<Capacity, Refusal>
-        ensures accepted_exactly_from_1_to_100000 { MatchResult result (λ c. (1 ≤ watt_hours) × (watt_hours ≤ 100000) × (c.watt_hours ≡ watt_hours)) (λ e. (e ≡ CapacityOutOfRange) × ((1 ≤ watt_hours) × (watt_hours ≤ 100000) → ⊥)) }
+        ensures accepted_exactly_from_1_to_100000 { AcceptsCapacity result watt_hours (λ c. c.watt_hours) }
     {
         if !(1..=100_000).contains(&watt_hours) {
             return Err(Refusal::CapacityOutOfRange);

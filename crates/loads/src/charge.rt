@@ -1,6 +1,6 @@
 //! The charge kind: a load is the charge of a battery in watt-hours.
-ghost use Rattle.std.specs.Prelude.{◌≡◌, ◌≤◌, MatchResult};
-ghost use Rattle.refusals.specs.declared.refusal.Refusal.TheVariants.{CapacityOutOfRange};
+ghost use Rattle.std.specs.Prelude.{◌≡◌, ◌≤◌};
+ghost use Rattle.loads.specs.Capacity.{AcceptsCapacity};
 ghost use Rattle.loads.specs.Charge.{charges, shortage};
 ghost use Rattle.loads.specs.ChargeLaws.{charges_lawful};
 
@@ -10,7 +10,7 @@ use maps::road::Road;
 use refusals::refusal::Refusal;
 
 /// The charge of a battery. From 0 to 100,000 it is a load; other numbers are none.
-#[derive(Clone, Copy, Default, PartialEq, Eq, Debug)]
+#[derive(Clone, Copy, PartialEq, Eq, Debug, Default)]
 pub struct Charge {
     pub level: u32,
 }
@@ -36,7 +36,7 @@ impl Charge {
 impl ChargeKind {
     /// The kind of this capacity; refuses one that is out of range.
     pub fn new(capacity: u32) -> Result<ChargeKind, Refusal>
-        ensures accepted_exactly_from_1_to_100000 { MatchResult result (λ k. (1 ≤ capacity) × (capacity ≤ 100000) × (k.capacity.watt_hours ≡ capacity)) (λ e. (e ≡ CapacityOutOfRange) × ((1 ≤ capacity) × (capacity ≤ 100000) → ⊥)) }
+        ensures accepted_exactly_from_1_to_100000 { AcceptsCapacity result capacity (λ k. k.capacity.watt_hours) }
     {
         Ok(ChargeKind {
             capacity: Capacity::new(capacity)?,

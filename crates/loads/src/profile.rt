@@ -1,6 +1,6 @@
 //! The profile kind: a load tells, for every starting charge together, what charge a van has now.
-ghost use Rattle.std.specs.Prelude.{◌≡◌, ◌≤◌, true, ◌&&◌, Decides, MatchResult};
-ghost use Rattle.refusals.specs.declared.refusal.Refusal.TheVariants.{CapacityOutOfRange};
+ghost use Rattle.std.specs.Prelude.{◌≡◌, ◌≤◌, true, ◌&&◌, Decides};
+ghost use Rattle.loads.specs.Capacity.{AcceptsCapacity};
 ghost use Rattle.loads.specs.Profile.{AsGood, is_profile, plain, profiles, three_comparisons};
 ghost use Rattle.loads.specs.ProfileLaws.{profiles_lawful};
 
@@ -50,7 +50,7 @@ impl Profile {
 impl ProfileKind {
     /// The kind of this capacity; refuses one that is out of range.
     pub fn new(capacity: u32) -> Result<ProfileKind, Refusal>
-        ensures accepted_exactly_from_1_to_100000 { MatchResult result (λ k. (1 ≤ capacity) × (capacity ≤ 100000) × (k.capacity.watt_hours ≡ capacity)) (λ e. (e ≡ CapacityOutOfRange) × ((1 ≤ capacity) × (capacity ≤ 100000) → ⊥)) }
+        ensures accepted_exactly_from_1_to_100000 { AcceptsCapacity result capacity (λ k. k.capacity.watt_hours) }
     {
         Ok(ProfileKind {
             capacity: Capacity::new(capacity)?,
