@@ -6,8 +6,7 @@ ghost use Rattle.files.specs.Names.{all_among, names_line};
 ghost use Rattle.files.specs.Values.{value_line};
 
 use crate::fault::{LineFault, ValueFault};
-use crate::fields::FieldReader;
-use crate::fields::taking::is_parted;
+use crate::fields::{FieldReader, is_parted};
 use refusals::refusal::Refusal;
 
 /// The columns of one kind of file.

@@ -2,7 +2,7 @@ use Rattle.std.proofs.Common.{Ok, sym, ap, ◌∙◌}
 use Rattle.std.proofs.lemmas.Result.{err_from_is_err_and}
 use Rattle.std.proofs.lemmas.Bool.{cond-true, cond-false}
 use Rattle.maps.proofs.RowsAnswered.{layer_refused, layer_found}
-use Rattle.maps.proofs.closures.calls.ClosuresMap.place.Goals as goal
+use Rattle.maps.proofs.closures.ClosuresMap.place.Goals as goal
 
 pub returns-in_err-road : goal.returns-in_err-road
 returns-in_err-road g c =

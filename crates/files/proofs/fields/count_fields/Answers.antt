@@ -1,7 +1,7 @@
 use Rattle.std.proofs.Common.{length, inl, arith, ap, ◌∙◌, eqb}
 use Rattle.std.proofs.lemmas.List.Splits.{length-slice_split}
 use Rattle.std.proofs.lemmas.List.Sums.{count_by-le-length}
-use Rattle.files.proofs.fields.taking.count_fields.Goals as goal
+use Rattle.files.proofs.fields.count_fields.Goals as goal
 
 pub count-requires-clause-fits : goal.count-requires-clause-fits
 count-requires-clause-fits c =

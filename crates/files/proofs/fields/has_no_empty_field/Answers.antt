@@ -3,7 +3,7 @@ use Rattle.std.proofs.lemmas.Iterator.Consumers.{YieldsList-from_first}
 use Rattle.std.proofs.lemmas.Iterator.Search.{all_from_yields_List}
 use Rattle.files.specs.Lines.{pieces}
 use Rattle.files.specs.FieldsLeft.{fields_left}
-use Rattle.files.proofs.fields.taking.has_no_empty_field.Goals as goal
+use Rattle.files.proofs.fields.has_no_empty_field.Goals as goal
 
 pub returns : goal.returns
 returns c =
