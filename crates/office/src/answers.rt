@@ -34,6 +34,7 @@ fn answer_all<M: Map + Copy>(
     let mut labels = vec![in heap; Label::default(); LABELS]?;
     let mut waiting = vec![in heap; Candidate::default(); WAITING]?;
     let mut answers = Vec::new(heap);
+    // A `for`: tried as `map` and `collect`, whose closure changes both tables; that each of its calls answers so did not prove.
     for question in questions {
         answers.push(answer_question(map, *question, &mut labels, &mut waiting))?;
     }
