@@ -21,7 +21,7 @@ use Rattle.front.specs.Front.{Serves, Before, sooner, higher_rank, lower_junctio
 use Rattle.front.specs.Labels.{Served}
 use Rattle.front.specs.Invariant.{IsNext, Spreads, Thins}
 use Rattle.front.proofs.OneRoad.{arrival_by_place_leads, leads_to_arrival_by_place, leading_place_is_below_twelve}
-use Rattle.walks.specs.declared.trial.Ending.TheVariants.{PastDeadline}
+use Rattle.walks.specs.declared.trial.Stranding.TheVariants.{PastDeadline}
 use Rattle.walks.specs.Trial.{arrival_over, step_over, step_by_place}
 use Rattle.queue.specs.Heaps.{Least}
 use Rattle.promises.specs.declared.candidate.Candidate.{Candidate}

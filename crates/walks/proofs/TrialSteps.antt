@@ -5,8 +5,7 @@ use Rattle.maps.specs.Rows.{Rows}
 use Rattle.loads.specs.Meaning.{Meaning}
 use Rattle.front.specs.declared.arrival.Arrival.{Arrival}
 use Rattle.front.specs.declared.leg.Leg.{Leg}
-use Rattle.walks.specs.declared.trial.Ending.{Ending}
-use Rattle.walks.specs.declared.trial.Ending.TheVariants.{Arrived}
+use Rattle.walks.specs.declared.trial.Stranding.{Stranding}
 use Rattle.front.specs.Legs.{leg_of}
 use Rattle.walks.specs.Trial.{step_by_place, legs_driven, ending_of}
 
@@ -23,11 +22,11 @@ module _ {L : Type 0} (rows : Rows) (m : Meaning L) (deadline : ℕ) (a : Arriva
     unfolding ending_of
     ending_goes_on b h = rw (here, ← h)
 
-    pub legs_stop : (e : Ending) → Err e ≡ step_by_place rows m deadline a (get_or places i 0) → legs_driven rows m deadline a (drop i places) ≡ []
+    pub legs_stop : (e : Stranding) → Err e ≡ step_by_place rows m deadline a (get_or places i 0) → legs_driven rows m deadline a (drop i places) ≡ []
     unfolding legs_driven
     legs_stop e h = rw (here, ← h)
 
-    pub ending_stops : (e : Ending) → Err e ≡ step_by_place rows m deadline a (get_or places i 0) → ending_of rows m deadline a (drop i places) ≡ e
+    pub ending_stops : (e : Stranding) → Err e ≡ step_by_place rows m deadline a (get_or places i 0) → ending_of rows m deadline a (drop i places) ≡ Err e
     unfolding ending_of
     ending_stops e h = rw (here, ← h)
 
@@ -35,7 +34,7 @@ module _ {L : Type 0} (rows : Rows) (m : Meaning L) (deadline : ℕ) (a : Arriva
   unfolding legs_driven
   legs_at_the_end past = rw (drop_all i places past)
 
-  pub ending_at_the_end : length places ≤ i → ending_of rows m deadline a (drop i places) ≡ Arrived
+  pub ending_at_the_end : length places ≤ i → ending_of rows m deadline a (drop i places) ≡ Ok tt
   unfolding ending_of
   ending_at_the_end past = rw (drop_all i places past)
 
@@ -44,7 +43,7 @@ module _ {L : Type 0} (rows : Rows) (m : Meaning L) (deadline : ℕ) (a : Arriva
     pub one_leg_further : i < length places → (b : Arrival L) → Ok b ≡ step_by_place rows m deadline a (get_or places i 0) → (more : List (Leg L)) → more ≡ done ++ leg_of a (get_or places i 0) b ∷ [] → more ++ legs_driven rows m deadline b (drop (i + 1) places) ≡ all
     one_leg_further inside b h more pushed = ap (λ ls. ls ++ legs_driven rows m deadline b (drop (i + 1) places)) pushed ∙ (append_assoc done _ _ ∙ (ap (λ ls. done ++ ls) (sym (legs_go_on inside b h)) ∙ so_far))
 
-    pub no_leg_further : i < length places → (e : Ending) → Err e ≡ step_by_place rows m deadline a (get_or places i 0) → done ≡ all
+    pub no_leg_further : i < length places → (e : Stranding) → Err e ≡ step_by_place rows m deadline a (get_or places i 0) → done ≡ all
     no_leg_further inside e h = sym (append-nil done) ∙ (ap (λ ls. done ++ ls) (sym (legs_stop inside e h)) ∙ so_far)
 
     pub no_leg_left : length places ≤ i → done ≡ all

@@ -47,20 +47,20 @@ pub struct ChargedWalk<'a> {
     pub places: &'a [u32],
 }
 
-/// How a trial ended: at the walk's end, or before the road that could not be driven, and why.
+/// Why a van can go no further: what kept it from the next road.
 #[derive(Clone, Copy, PartialEq, Eq, Debug)]
-pub enum Ending {
-    Arrived,
+pub enum Stranding {
     EmptyPlace,
     CannotDrive(Road),
     PastDeadline(Road),
 }
 
-/// The roads that were driven, in order, and how the trial ended.
+/// The roads that were driven, in order, and how the trial ended: at the walk's end, or where and why the van
+/// could go no further.
 #[derive(Drop)]
 pub struct Trial<L> {
     pub legs: Vec<Leg<L>>,
-    pub ending: Ending,
+    pub ending: Result<(), Stranding>,
 }
 
 /// Why no trial was made.
@@ -81,13 +81,6 @@ impl From<Refusal> for NoTrial {
     }
 }
 
-// Whether a place is one that no junction has.
-fn any_above_eleven(places: &[u32]) -> bool
-    ensures { result ≡ list_any (nat_lt 11) places.now }
-{
-    places.iter().any(|place| *place > 11)
-}
-
 // The first check that a walk fails: its start, its load, its deadline, then its places.
 fn check<M: Map, K: Kind>(map: &M, kind: &K, walk: &Walk<'_, K::Load>) -> Result<(), Refusal>
     ensures { result_err result ≡ trial_refusal (length (M.Map.rows map.now)) (K.Kind.meaning kind.now) walk.now.start walk.now.load walk.now.deadline walk.now.places.now }
@@ -101,7 +94,7 @@ fn check<M: Map, K: Kind>(map: &M, kind: &K, walk: &Walk<'_, K::Load>) -> Result
     if walk.deadline > LATEST_DEADLINE {
         return Err(Refusal::DeadlineTooLate);
     }
-    if any_above_eleven(walk.places) {
+    if walk.places.iter().any(|place| *place > 11) {
         return Err(Refusal::PlaceAboveEleven);
     }
     Ok(())
@@ -133,12 +126,17 @@ fn drive_places<M: Map, K: Kind>(
                 })?;
                 van = next;
             }
-            Err(ending) => return Ok(Trial { legs, ending }),
+            Err(stranding) => {
+                return Ok(Trial {
+                    legs,
+                    ending: Err(stranding),
+                });
+            }
         }
     }
     Ok(Trial {
         legs,
-        ending: Ending::Arrived,
+        ending: Ok(()),
     })
 }
 
