@@ -1,21 +1,18 @@
 //! The walk that was asked for, tried on the map that was asked for.
-use crate::request::{EstateNumbers, Request};
+use crate::request::Request;
 use crate::worked;
 use files::fault::{FileFault, FileName, ReadFault};
 use files::road_file::read_roads;
 use inputs::text_file::read_file_if_there;
 use loads::charge::Charge;
-use maps::Map;
 use maps::closures::{Closures, ShutPlace};
 use maps::estate::Estate;
 use maps::table::{TableMap, Tables};
+use maps::{MOST_JUNCTIONS, Map};
 use refusals::refusal::Refusal;
 use std::alloc::Global;
 use thiserror::Error;
-use walks::trial::{ChargedWalk, NoTrial, Trial, try_charged_walk};
-
-/// The most junctions that a map has.
-const MOST_JUNCTIONS: u32 = 9_600;
+use walks::trial::{NoTrial, Trial, try_charged_walk};
 
 /// Why nothing was driven.
 #[derive(Clone, Copy, Debug, Error)]
@@ -54,7 +51,7 @@ fn shut_all<M: Map + Drop>(map: &mut Closures<M>, places: &[ShutPlace]) -> Resul
     Ok(())
 }
 
-// The same on any map, with the places shut that are to be.
+// Tries the walk that is asked for on this map, with the places shut that are asked for.
 fn try_over<M: Map + Drop>(
     heap: Global,
     map: M,
@@ -62,34 +59,10 @@ fn try_over<M: Map + Drop>(
 ) -> Result<Trial<Charge>, NoTrial> {
     let mut closed = Closures::over(map);
     shut_all(&mut closed, &request.shut)?;
-    try_charged_walk(
-        heap,
-        closed,
-        ChargedWalk {
-            watts: request.watts,
-            capacity: request.capacity,
-            start: request.start,
-            charge: request.charge,
-            places: &request.places,
-        },
-    )
+    try_charged_walk(heap, closed, request.walk())
 }
 
-impl TryFrom<EstateNumbers> for Estate {
-    type Error = Refusal;
-
-    fn try_from(numbers: EstateNumbers) -> Result<Estate, Refusal> {
-        Estate::new(
-            numbers.width,
-            numbers.height,
-            numbers.seconds,
-            numbers.flat,
-            numbers.rise,
-        )
-    }
-}
-
-// The same on the map of these tables.
+// Tries the walk that is asked for on the map of these tables.
 fn try_tables(
     heap: Global,
     tables: Tables<'_>,
@@ -104,7 +77,7 @@ fn try_tables(
 pub fn attempt(rt: &HostRuntime, request: &Request) -> Result<Trial<Charge>, NotDriven> {
     let heap = rt.alloc();
     if let Some(numbers) = request.estate {
-        return Ok(try_over(heap, Estate::try_from(numbers)?, request)?);
+        return Ok(try_over(heap, Estate::new(numbers)?, request)?);
     }
     let Some(text) = read_file_if_there(rt, FileName::Roads)? else {
         return try_tables(heap, worked::tables(), request);

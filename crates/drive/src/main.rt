@@ -12,7 +12,7 @@ use inputs::text_file::print_fault;
 use loads::charge::Charge;
 use request::{BadRequest, Request, read_request};
 use std::{env, io};
-use walks::trial::{Ending, Trial};
+use walks::trial::{Stranding, Trial};
 
 fn print_legs(rt: &HostRuntime, trial: &Trial<Charge>) -> io::Result<()> {
     println!(rt; "road junction place seconds charge")?;
@@ -32,13 +32,13 @@ fn print_ending(rt: &HostRuntime, departed_with: u32, trial: &Trial<Charge>) -> 
     };
     let charge = trial.legs.last().map_or(departure, |leg| leg.load);
     match trial.ending {
-        Ending::Arrived => println!(rt; "arrived"),
-        Ending::EmptyPlace => println!(rt; "stranded at road {road}: the place is empty"),
-        Ending::CannotDrive(next) => println!(rt;
+        Ok(()) => println!(rt; "arrived"),
+        Err(Stranding::EmptyPlace) => println!(rt; "stranded at road {road}: the place is empty"),
+        Err(Stranding::CannotDrive(next)) => println!(rt;
             "stranded at road {road}: the charge is short by {} watt-hours",
             charge.short_of(next.draw)
         ),
-        Ending::PastDeadline(_) => println!(rt;
+        Err(Stranding::PastDeadline(_)) => println!(rt;
             "stranded at road {road}: the walk would take over 999999 seconds"
         ),
     }

@@ -1,19 +1,10 @@
 //! What is asked on the command line.
 use maps::closures::ShutPlace;
+use maps::estate::EstateNumbers;
 use std::alloc::{AllocError, Global};
 use std::num::ParseIntError;
 use thiserror::Error;
-
-/// The numbers of an estate: width, height, seconds, flat draw and rise.
-// Not an `Estate`, whose numbers have passed its checks: these are as they were asked for.
-#[derive(Clone, Copy)]
-pub struct EstateNumbers {
-    pub width: u32,
-    pub height: u32,
-    pub seconds: u32,
-    pub flat: u32,
-    pub rise: u32,
-}
+use walks::trial::ChargedWalk;
 
 /// A walk to try: on which map, with which places shut, from where, with what charge and capacity,
 /// its heater at how many watts, and by which places.
@@ -28,6 +19,19 @@ pub struct Request {
     pub places: Vec<u32>,
 }
 
+impl Request {
+    /// The walk that is asked for, on whichever map.
+    pub fn walk(&self) -> ChargedWalk<'_> {
+        ChargedWalk {
+            watts: self.watts,
+            capacity: self.capacity,
+            start: self.start,
+            charge: self.charge,
+            places: &self.places,
+        }
+    }
+}
+
 /// Why the words on the command line ask for nothing.
 #[derive(Debug, Drop, Error)]
 pub enum BadRequest {
@@ -39,12 +43,12 @@ pub enum BadRequest {
     OutOfMemory(#[from(alloc)] AllocError),
 }
 
-fn number(word: &String) -> Result<u32, BadRequest> {
-    Ok(word.as_str().parse()?)
+fn number(word: &str) -> Result<u32, BadRequest> {
+    Ok(word.parse()?)
 }
 
 fn numbers(heap: Global, words: &[String]) -> Result<Vec<u32>, BadRequest> {
-    words.iter().map(number).try_collect(heap)
+    words.iter().map(|word| number(word)).try_collect(heap)
 }
 
 // The estate that the words after `--estate` name, and the words after it.

@@ -57,45 +57,51 @@ fn tables_are_refused_by_the_first_check_that_fails(rt: HostRuntime) {
     }
 }
 
+// Tables of one junction, whose every entry is bad besides.
+const ROW: [u32; 12] = [MOST; 12];
+
+const DRAWS: [i32; 12] = [i32::MIN; 12];
+
+const WHOLE: Tables<'static> = Tables {
+    counts: &[13],
+    heads: &ROW,
+    times: &ROW,
+    draws: &DRAWS,
+};
+
 #[test]
 fn tables_of_other_lengths_are_refused_before_any_entry(rt: HostRuntime) {
-    let row = [MOST; 12];
-    let whole = Tables {
-        counts: &[13],
-        heads: &row,
-        times: &row,
-        draws: &[i32::MIN; 12],
-    };
+    let short = &ROW[0..11];
     let cases = [
         (
             Tables {
-                heads: &row[0..11],
-                ..whole
+                heads: short,
+                ..WHOLE
             },
             14,
         ),
         (
             Tables {
-                times: &row[0..11],
-                ..whole
+                times: short,
+                ..WHOLE
             },
             14,
         ),
         (
             Tables {
-                draws: &whole.draws[0..11],
-                ..whole
+                draws: &DRAWS[0..11],
+                ..WHOLE
             },
             14,
         ),
         (
             Tables {
                 counts: &[],
-                ..whole
+                ..WHOLE
             },
             14,
         ),
-        (whole, 15),
+        (WHOLE, 15),
     ];
     let mut map = TableMap::empty();
     for (tables, number) in cases {
@@ -104,15 +110,14 @@ fn tables_of_other_lengths_are_refused_before_any_entry(rt: HostRuntime) {
 }
 
 #[test]
-fn places_are_asked_of_junctions_of_the_map_alone(rt: HostRuntime) {
+fn places_are_asked_of_junctions_of_the_map_alone(rt: HostRuntime) -> Result<(), Fail> {
     let tables = Tables {
         counts: &[1],
         heads: &[0; 12],
         times: &[1; 12],
         draws: &[0; 12],
     };
-    let mut map = TableMap::empty();
-    let _ = map.load(tables);
+    let map = TableMap::new(tables)?;
     // whether there is a road, or the number that refuses the question
     let asked = |junction, place| {
         map.place(junction, place)
@@ -125,6 +130,7 @@ fn places_are_asked_of_junctions_of_the_map_alone(rt: HostRuntime) {
     assert_eq!(rt; asked(0, MOST), Err(10));
     assert_eq!(rt; asked(1, 0), Err(9));
     assert_eq!(rt; asked(MOST, MOST), Err(9));
+    Ok(())
 }
 
 #[test]

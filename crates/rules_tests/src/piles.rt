@@ -1,13 +1,24 @@
 //! The estate, closures, and layers piled on layers.
 use maps::Map;
 use maps::closures::Closures;
-use maps::estate::Estate;
+use maps::estate::{Estate, EstateNumbers};
 use maps::heater::{Heater, Power};
 use maps::table::{TableMap, Tables};
 use refusals::refusal::Refusal;
 use std::test::Fail;
 
 const MOST: u32 = u32::MAX;
+
+// An estate of roads that draw 40 along a row, 47 to the next and 33 back.
+fn estate(width: u32, height: u32, seconds: u32) -> Result<Estate, Refusal> {
+    Estate::new(EstateNumbers {
+        width,
+        height,
+        seconds,
+        flat: 40,
+        rise: 7,
+    })
+}
 
 // The head and draw of the road at a place of any map, or the number that refuses the question.
 fn at<M: Map>(map: &M, junction: u32, place: u32) -> Result<Option<(u32, i32)>, u8> {
@@ -31,14 +42,20 @@ fn estates_are_refused_by_the_first_check_that_fails(rt: HostRuntime) {
         (98, 97, 7_200, 50_000, 50_000, Ok(())),
     ];
     for (width, height, seconds, flat, rise, expected) in cases {
-        let estate = Estate::new(width, height, seconds, flat, rise);
+        let estate = Estate::new(EstateNumbers {
+            width,
+            height,
+            seconds,
+            flat,
+            rise,
+        });
         assert_eq!(rt; estate.map(|_| ()).map_err(Refusal::number), expected);
     }
 }
 
 #[test]
 fn estates_lead_to_their_neighbours(rt: HostRuntime) -> Result<(), Fail> {
-    let map = Estate::new(3, 2, 10, 40, 7)?;
+    let map = estate(3, 2, 10)?;
     assert_eq!(rt; map.junctions(), 6);
     assert_eq!(rt; at(&map, 1, 0), Ok(Some((4, 47))));
     assert_eq!(rt; at(&map, 1, 1), Ok(Some((2, 40))));
@@ -55,8 +72,7 @@ fn estates_lead_to_their_neighbours(rt: HostRuntime) -> Result<(), Fail> {
 
 #[test]
 fn places_are_shut_and_reopened_one_by_one(rt: HostRuntime) -> Result<(), Fail> {
-    let estate = Estate::new(10, 10, 10, 40, 7)?;
-    let mut map = Closures::over(estate);
+    let mut map = Closures::over(estate(10, 10, 10)?);
     assert_eq!(rt; map.shut(100, 12).map_err(Refusal::number), Err(9));
     assert_eq!(rt; map.shut(99, 12).map_err(Refusal::number), Err(10));
     assert_eq!(rt; map.reopen(0, 0).map_err(Refusal::number), Err(35));
@@ -73,8 +89,7 @@ fn places_are_shut_and_reopened_one_by_one(rt: HostRuntime) -> Result<(), Fail> 
 
 #[test]
 fn sixty_four_places_are_shut_at_most(rt: HostRuntime) -> Result<(), Fail> {
-    let estate = Estate::new(10, 10, 10, 40, 7)?;
-    let mut map = Closures::over(estate);
+    let mut map = Closures::over(estate(10, 10, 10)?);
     for junction in 0..64u32 {
         assert_eq!(rt; map.shut(junction, 1), Ok(()));
     }
@@ -98,7 +113,7 @@ fn layers_lie_over_any_map(rt: HostRuntime) -> Result<(), Fail> {
     let mut table = TableMap::empty();
     assert_eq!(rt; table.load(tables), Ok(()));
     let power = Power::new(1_000)?;
-    let estate = Estate::new(2, 2, 36, 40, 7)?;
+    let estate = estate(2, 2, 36)?;
     // a heater over closures over a table
     let heated = Heater::over(Closures::over(table), power);
     assert_eq!(rt; at(&heated, 0, 0), Ok(None));

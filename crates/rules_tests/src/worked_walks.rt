@@ -1,10 +1,42 @@
 //! Walks on a small map: one that arrives, and those that a wrong rule would get wrong.
+use loads::charge::Charge;
 use maps::table::{TableMap, Tables};
 use std::alloc::Global;
-use walks::trial::{ChargedWalk, Ending, NoTrial, try_charged_walk};
+use walks::trial::{ChargedWalk, NoTrial, Stranding, Trial, try_charged_walk};
 
 // Five junctions in a row: 0 to 1 draws 600, 1 to 2 draws -500, 2 to 3 draws -400, 3 to 4 draws 100; 60 s each.
 const COUNTS: [u32; 5] = [1, 1, 1, 1, 0];
+
+// Tries a walk along the row of junctions.
+fn try_along_the_row(heap: Global, walk: ChargedWalk<'_>) -> Result<Trial<Charge>, NoTrial> {
+    let mut heads = [0; 60];
+    let mut draws = [0; 60];
+    heads[0] = 1;
+    heads[12] = 2;
+    heads[24] = 3;
+    heads[36] = 4;
+    draws[0] = 600;
+    draws[12] = -500;
+    draws[24] = -400;
+    draws[36] = 100;
+    let map = TableMap::new(Tables {
+        counts: &COUNTS,
+        heads: &heads,
+        times: &[60; 60],
+        draws: &draws,
+    })?;
+    try_charged_walk(heap, map, walk)
+}
+
+// A word for how a trial ended.
+fn word(ending: Result<(), Stranding>) -> &'static str {
+    match ending {
+        Ok(()) => "arrived",
+        Err(Stranding::EmptyPlace) => "empty place",
+        Err(Stranding::CannotDrive(_)) => "cannot drive",
+        Err(Stranding::PastDeadline(_)) => "past deadline",
+    }
+}
 
 // How a walk along the row ends: the roads driven, the last charge, and a word for the ending; or the
 // number that refuses it, and none where memory runs out.
@@ -16,24 +48,6 @@ fn ends(
     charge: u32,
     places: &[u32],
 ) -> Result<(usize, u32, &'static str), Option<u8>> {
-    let mut heads = [0; 60];
-    let mut draws = [0; 60];
-    heads[0] = 1;
-    heads[12] = 2;
-    heads[24] = 3;
-    heads[36] = 4;
-    draws[0] = 600;
-    draws[12] = -500;
-    draws[24] = -400;
-    draws[36] = 100;
-    let tables = Tables {
-        counts: &COUNTS,
-        heads: &heads,
-        times: &[60; 60],
-        draws: &draws,
-    };
-    let mut map = TableMap::empty();
-    let _ = map.load(tables);
     let walk = ChargedWalk {
         watts,
         capacity,
@@ -41,18 +55,12 @@ fn ends(
         charge,
         places,
     };
-    let trial = try_charged_walk(heap, map, walk).map_err(|why| match why {
+    let trial = try_along_the_row(heap, walk).map_err(|why| match why {
         NoTrial::Refused(refusal) => Some(refusal.number()),
         NoTrial::OutOfMemory => None,
     })?;
     let left = trial.legs.last().map_or(charge, |leg| leg.load.level);
-    let word = match trial.ending {
-        Ending::Arrived => "arrived",
-        Ending::EmptyPlace => "empty place",
-        Ending::CannotDrive(_) => "cannot drive",
-        Ending::PastDeadline(_) => "past deadline",
-    };
-    Ok((trial.legs.len(), left, word))
+    Ok((trial.legs.len(), left, word(trial.ending)))
 }
 
 #[test]
