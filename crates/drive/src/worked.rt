@@ -27,7 +27,7 @@ const DRAWS: [i32; 48] = [
 ];
 
 /// The tables of the worked map.
-pub fn tables() -> Tables<'static> {
+pub(crate) fn tables() -> Tables<'static> {
     Tables {
         counts: &COUNTS,
         heads: &HEADS,

@@ -47,9 +47,10 @@ fn begin_refuses_by_the_first_check_that_fails(rt: HostRuntime) -> Result<(), Fa
 }
 
 // A search of the worked map that has begun, with five labels.
-fn begun(heap: Global) -> Result<SearchOnMap<ChargeKind>, Fail> {
+fn begun(rt: &impl Abort, heap: Global) -> Result<SearchOnMap<ChargeKind>, Fail> {
     let mut search = charges_on_worked_map(heap, 5, 60)?;
-    search.begin(trip(0, charge(1_000), 3, 999))?;
+    let answer = search.begin(trip(0, charge(1_000), 3, 999));
+    assert_eq!(rt; answer, Ok(Standing::Paused));
     Ok(search)
 }
 
@@ -62,7 +63,7 @@ fn advance_refuses_another_map_and_other_tables(rt: HostRuntime) -> Result<(), F
         mut labels,
         mut waiting,
         mut search,
-    } = begun(heap)?;
+    } = begun(&rt, heap)?;
     let smaller = map_with_a_gaining_loop()?;
     let mut longer = vec![in heap; label_of(charge(77)); 6]?;
     let mut wider = vec![in heap; candidate_of(charge(77)); 61]?;
@@ -79,7 +80,7 @@ fn advance_refuses_another_map_and_other_tables(rt: HostRuntime) -> Result<(), F
 
 #[test]
 fn advance_refuses_other_budgets(rt: HostRuntime) -> Result<(), Fail> {
-    let mut on_map = begun(rt.alloc())?;
+    let mut on_map = begun(&rt, rt.alloc())?;
     assert_eq!(rt; on_map.advance(0).map_err(Refusal::number), Err(7));
     assert_eq!(rt; on_map.advance(65_536).map_err(Refusal::number), Err(7));
     assert_eq!(rt;
@@ -95,10 +96,10 @@ fn trace_refuses_other_labels_and_short_buffers(rt: HostRuntime) -> Result<(), F
     let unwritten = leg(77, 77, 77, 77);
     let longer = vec![in heap; label_of(charge(77)); 6]?;
     let mut walk = vec![in heap; unwritten; 1]?;
-    let new = charges_on_worked_map(heap, 5, 60)?;
-    let too_early = new.search.trace(&new.labels, 0, &mut walk);
+    let mut on_map = charges_on_worked_map(heap, 5, 60)?;
+    let too_early = on_map.search.trace(&on_map.labels, 0, &mut walk);
     assert_eq!(rt; too_early.map_err(Refusal::number), Err(31));
-    let mut on_map = begun(heap)?;
+    on_map.begin(trip(0, charge(1_000), 3, 999))?;
     let other_labels = on_map.search.trace(&longer, 1, &mut walk);
     assert_eq!(rt; other_labels.map_err(Refusal::number), Err(32));
     let not_listed = on_map.search.trace(&on_map.labels, 1, &mut walk);
