@@ -1,5 +1,6 @@
 //! `drive [--estate W H T D G] [--shut J K].. START CHARGE CAPACITY WATTS PLACE..`: tries one walk on an
-//! estate, or on the map of roads.txt, or on the worked map where there is no such file, and tells where the van is and what it carries after each road.
+//! estate, or on the map of roads.txt, or on the worked map where there is no such file, and tells where
+//! the van is and what it carries after each road.
 #![tactic(auto)]
 
 mod attempt;

@@ -43,7 +43,7 @@ pub enum LineFault {
     InField(ValueFault),
 }
 
-// This conversion and those below are written out, since one that is derived promises nothing of what it makes.
+// Written out, as are those into `ReadFault`: a conversion that is derived promises nothing of what it makes.
 impl From<ValueFault> for LineFault {
     ghost from_gives = { λ v l. l ≡ InField v };
 
@@ -61,11 +61,11 @@ pub struct PlacedFault {
 }
 
 /// What is wrong with a file: the line from 1, the field from 1, or 0 for a whole line.
+// Numbers as they are written: field 0 for a whole line, and line 0 too for a whole file.
 #[derive(Clone, Copy, PartialEq, Eq, Debug)]
 pub struct FileFault {
     pub file: FileName,
     pub line: usize,
-    // 0 is the number that is written for a whole line, so it stands here as it is told
     pub field: usize,
     pub refusal: Refusal,
 }
@@ -83,6 +83,7 @@ impl fmt::Display for FileFault {
     }
 }
 
+// Written out: it puts the parts of a line's fault beside its file and line.
 impl From<PlacedFault> for FileFault {
     ghost from_gives = { λ p f. f ≡ placed p.file p.line p.fault };
 

@@ -9,7 +9,7 @@ use crate::fault::{FileFault, FileName, LineFault, PlacedFault};
 use refusals::refusal::Refusal;
 
 /// The lines of a file, one after another.
-// The lent file and a place in it, not what is left: docs/DECISIONS.md says why.
+// The file and a place in it, not what is left: the place bounds the count of lines taken, which so cannot overflow.
 #[derive(Drop)]
 pub struct LineReader<'a> {
     file: FileName,

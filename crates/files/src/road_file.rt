@@ -10,6 +10,7 @@ use crate::lines::LineReader;
 use crate::roads::RoadColumn;
 use crate::rows::{next_row, read_columns};
 use crate::tables::RoadTables;
+use maps::MOST_JUNCTIONS;
 use std::alloc::Global;
 
 fn read_tables(heap: Global, text: &[u8], room: u32) -> Result<RoadTables, ReadFault>
@@ -31,5 +32,5 @@ pub fn read_roads(heap: Global, text: &[u8], room: u32) -> Result<RoadTables, Re
     ensures tables_or_first_fault { ReadAs tables result (road_tables (min room 9600) text.now) }
     ensures tables_map_the_roads { MapsTheRoads result (road_lines (min room 9600) text.now) }
 {
-    read_tables(heap, text, room.min(9_600))
+    read_tables(heap, text, room.min(MOST_JUNCTIONS))
 }

@@ -22,6 +22,7 @@ pub fn read_value(field: &[u8]) -> Result<u32, Refusal>
     if !is_value_shaped(field) {
         return Err(Refusal::NotAValue);
     }
+    // by hand: std's `parse` takes text, and a plus sign too
     let mut value = 0u32;
     for digit in field {
         if !digit.is_ascii_digit() {

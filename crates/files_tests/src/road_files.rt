@@ -154,9 +154,7 @@ fn holds_the_roads(tables: Tables<'_>) -> bool {
 #[test]
 fn roads_stand_at_their_places_whatever_the_order_of_names(rt: HostRuntime) -> Result<(), Fail> {
     for text in ORDERS {
-        let Ok(tables) = read_roads(rt.alloc(), text, 256) else {
-            return Err(Fail::new("a good road file was refused"));
-        };
+        let tables = read_roads(rt.alloc(), text, 256)?;
         assert!(rt; holds_the_roads(tables.lent()));
     }
     Ok(())
@@ -176,9 +174,7 @@ const SIZES: [Size; 5] = [
 #[test]
 fn junctions_are_one_above_the_largest_named(rt: HostRuntime) -> Result<(), Fail> {
     for (text, room, junctions) in SIZES {
-        let Ok(tables) = read_roads(rt.alloc(), text, room) else {
-            return Err(Fail::new("a good road file was refused"));
-        };
+        let tables = read_roads(rt.alloc(), text, room)?;
         assert_eq!(rt; tables.junctions, junctions);
         assert_eq!(rt; tables.counts.len(), junctions as usize);
         assert_eq!(rt; tables.draws.len(), 12 * (junctions as usize));

@@ -108,7 +108,7 @@ fn push_then_pop<E: Entry>(entries: &mut [E], count: usize, entry: E) -> Option<
     ensures rest_untouched { drop (count + 1) entries.new ≡ drop (count + 1) entries.old }
 {
     let mut heap = Heap::over(entries, count);
-    let _ = heap.push(entry);
+    heap.push(entry).unwrap();
     let more = heap.len();
     let mut heap = Heap::over(entries, more);
     heap.pop()

@@ -47,7 +47,7 @@ fn numbered(rt: &impl Abort, (count, head, seconds, draw, expected): Case) {
     let mut map = TableMap::empty();
     assert_eq!(rt; map.load(tables).map_err(Refusal::number), expected);
     // an accepted table is the map's own, and a refused one has changed nothing
-    assert_eq!(rt; map.junctions(), if expected.is_ok() { 1 } else { 0 });
+    assert_eq!(rt; map.junctions(), u32::from(expected.is_ok()));
 }
 
 #[test]
