@@ -21,7 +21,7 @@ pub struct Request {
 
 impl Request {
     /// The walk that is asked for, on whichever map.
-    pub fn walk(&self) -> ChargedWalk<'_> {
+    pub(crate) fn walk(&self) -> ChargedWalk<'_> {
         ChargedWalk {
             watts: self.watts,
             capacity: self.capacity,
