@@ -4,6 +4,8 @@
 #[cfg(test)]
 mod faults;
 #[cfg(test)]
+mod name_orders;
+#[cfg(test)]
 mod query_files;
 #[cfg(test)]
 mod road_files;
