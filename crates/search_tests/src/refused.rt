@@ -47,11 +47,12 @@ fn begin_refuses_by_the_first_check_that_fails(rt: HostRuntime) -> Result<(), Fa
 }
 
 // A search of the worked map that has begun, with five labels.
-fn begun(rt: &impl Abort, heap: Global) -> Result<SearchOnMap<ChargeKind>, Fail> {
+fn begun(heap: Global) -> Result<SearchOnMap<ChargeKind>, Fail> {
     let mut search = charges_on_worked_map(heap, 5, 60)?;
-    let answer = search.begin(trip(0, charge(1_000), 3, 999));
-    assert_eq!(rt; answer, Ok(Standing::Paused));
-    Ok(search)
+    match search.begin(trip(0, charge(1_000), 3, 999))? {
+        Standing::Paused => Ok(search),
+        _ => Err(Fail::new("a search away from its goal did not pause")),
+    }
 }
 
 #[test]
@@ -63,7 +64,7 @@ fn advance_refuses_another_map_and_other_tables(rt: HostRuntime) -> Result<(), F
         mut labels,
         mut waiting,
         mut search,
-    } = begun(&rt, heap)?;
+    } = begun(heap)?;
     let smaller = map_with_a_gaining_loop()?;
     let mut longer = vec![in heap; label_of(charge(77)); 6]?;
     let mut wider = vec![in heap; candidate_of(charge(77)); 61]?;
@@ -80,7 +81,7 @@ fn advance_refuses_another_map_and_other_tables(rt: HostRuntime) -> Result<(), F
 
 #[test]
 fn advance_refuses_other_budgets(rt: HostRuntime) -> Result<(), Fail> {
-    let mut on_map = begun(&rt, rt.alloc())?;
+    let mut on_map = begun(rt.alloc())?;
     assert_eq!(rt; on_map.advance(0).map_err(Refusal::number), Err(7));
     assert_eq!(rt; on_map.advance(65_536).map_err(Refusal::number), Err(7));
     assert_eq!(rt;
