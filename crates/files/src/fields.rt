@@ -1,9 +1,9 @@
 //! A reader that holds what is left of a lent line.
-ghost use Rattle.std.specs.Prelude.{◌≡◌, [], ◌∷◌, length};
+ghost use Rattle.std.specs.Prelude.{◌≡◌, [], ◌∷◌};
 ghost use Rattle.std.specs.Option.{option_map_or};
 ghost use Rattle.std.specs.Iterator.{YieldsFirstRef, item_count};
 ghost use Rattle.files.specs.Lines.{pieces};
-ghost use Rattle.files.specs.Fields.{none_empty, parted};
+ghost use Rattle.files.specs.Fields.{parted};
 ghost use Rattle.files.specs.FieldsLeft.{fields_left};
 
 use crate::lines::first_place;
@@ -49,21 +49,16 @@ impl<'a> Iterator for FieldReader<'a> {
     }
 }
 
-fn count_fields(line: &[u8]) -> usize
-    ensures { result ≡ length (pieces 32 line.now) }
-{
-    FieldReader::new(line).count()
-}
-
-fn has_no_empty_field(line: &[u8]) -> bool
-    ensures { result ≡ none_empty (pieces 32 line.now) }
-{
-    FieldReader::new(line).all(|field| !field.is_empty())
-}
-
-/// Whether a line has `count` fields and none is empty.
+/// Whether a line has `count` fields and none is empty. Reads no further than a field that is empty or one too many.
 pub fn is_parted(line: &[u8], count: usize) -> bool
     ensures { result ≡ parted count (pieces 32 line.now) }
 {
-    count_fields(line) == count && has_no_empty_field(line)
+    let mut fields = FieldReader::new(line);
+    // no `count` and `all`: each reads a line to its end, however soon it shows that the line is not so
+    for _ in 0..count {
+        if fields.next().is_none_or(|field| field.is_empty()) {
+            return false;
+        }
+    }
+    fields.next().is_none()
 }
