@@ -20,9 +20,6 @@ pub trait Column: Copy + Eq {
     // the column that a name stands for
     ghost named: { List ℕ → Option Self };
 
-    // the row before its fields are read
-    ghost blank: { Self.Row };
-
     // the row with what the field of one column holds
     ghost filled: { ℕ → Self.Row → Self → List ℕ → Checked (Self.Row) };
 
@@ -30,16 +27,22 @@ pub trait Column: Copy + Eq {
     fn from_name(name: &[u8]) -> Option<Self>
         ensures { result ≡ named name.now };
 
-    /// The row before its fields are read.
-    fn blank() -> Self::Row
-        ensures { result ≡ blank };
-
     /// The row with what the field of this column holds; junctions are below `room`.
     fn fill(self, row: Self::Row, room: u32, field: &[u8]) -> Result<Self::Row, Refusal>
         ensures { result ≡ filled room row self field.now };
 
     // `==` holds of these columns and no others
     ghost equal_when_the_same: { (c d : Self) → Self.eq c d ≡ same c d };
+}
+
+/// Columns whose rows are read from a blank one on.
+pub trait BlankRow: Column {
+    // the row before its fields are read
+    ghost blank: { Self.Row };
+
+    /// The row before its fields are read.
+    fn blank() -> Self::Row
+        ensures { result ≡ blank };
 }
 
 // Whether each of `all` stands among the columns.

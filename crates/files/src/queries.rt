@@ -4,7 +4,7 @@ ghost use Rattle.std.proofs.Common.{rules};
 ghost use Rattle.files.specs.Files.{ReadAs};
 ghost use Rattle.files.specs.Queries.{query_same, query_named, blank_query, query_filled, query_list, with_value};
 
-use crate::columns::Column;
+use crate::columns::{BlankRow, Column};
 use crate::fault::{FileName, ReadFault};
 use crate::lines::LineReader;
 use crate::rows::{next_row, read_columns};
@@ -58,8 +58,6 @@ impl Column for QueryColumn {
 
     ghost equal_when_the_same = { Prim.search rules };
 
-    ghost blank = { blank_query };
-
     ghost filled = { query_filled };
 
     fn from_name(name: &[u8]) -> Option<QueryColumn> {
@@ -74,13 +72,17 @@ impl Column for QueryColumn {
         }
     }
 
-    fn blank() -> Question {
-        Question::default()
-    }
-
     fn fill(self, row: Question, _room: u32, field: &[u8]) -> Result<Question, Refusal> {
         let value = read_value(field)?;
         Ok(with_value(row, self, value))
+    }
+}
+
+impl BlankRow for QueryColumn {
+    ghost blank = { blank_query };
+
+    fn blank() -> Question {
+        Question::default()
     }
 }
 

@@ -3,7 +3,7 @@ ghost use Rattle.std.specs.Prelude.{◌≡◌};
 ghost use Rattle.std.proofs.Common.{rules};
 ghost use Rattle.files.specs.Roads.{road_same, road_named, junction, seconds, watt_hours, blank_road, road_filled};
 
-use crate::columns::Column;
+use crate::columns::{BlankRow, Column};
 use crate::values::{read_signed_value, read_value};
 use refusals::refusal::Refusal;
 
@@ -73,8 +73,6 @@ impl Column for RoadColumn {
 
     ghost equal_when_the_same = { Prim.search rules };
 
-    ghost blank = { blank_road };
-
     ghost filled = { road_filled };
 
     fn from_name(name: &[u8]) -> Option<RoadColumn> {
@@ -87,10 +85,6 @@ impl Column for RoadColumn {
         }
     }
 
-    fn blank() -> RoadLine {
-        RoadLine::default()
-    }
-
     fn fill(self, mut row: RoadLine, room: u32, field: &[u8]) -> Result<RoadLine, Refusal> {
         match self {
             RoadColumn::From => row.from = read_junction(field, room)?,
@@ -99,5 +93,13 @@ impl Column for RoadColumn {
             RoadColumn::WattHours => row.draw = read_watt_hours(field)?,
         }
         Ok(row)
+    }
+}
+
+impl BlankRow for RoadColumn {
+    ghost blank = { blank_road };
+
+    fn blank() -> RoadLine {
+        RoadLine::default()
     }
 }

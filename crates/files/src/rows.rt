@@ -6,7 +6,7 @@ ghost use Rattle.files.specs.Names.{names_line};
 ghost use Rattle.files.specs.Values.{value_line};
 ghost use Rattle.files.specs.Files.{names_read};
 
-use crate::columns::{Column, read_names, read_row};
+use crate::columns::{BlankRow, Column, read_names, read_row};
 use crate::fault::{FileFault, LineFault};
 use crate::lines::LineReader;
 use refusals::refusal::Refusal;
@@ -30,12 +30,12 @@ pub(crate) fn read_columns<C: Column, const N: usize>(
 }
 
 /// The row of the next value line, or None at the end of the file.
-pub(crate) fn next_row<C: Column>(
+pub(crate) fn next_row<C: BlankRow>(
     lines: &mut LineReader,
     columns: &[C],
     room: u32,
 ) -> Result<Option<C::Row>, FileFault>
-    ensures row_or_fault { result ≡ row_read lines.old.file lines.old.taken (λ p. value_line (C.Column.filled room) columns.now C.Column.blank (pieces 32 p)) (lines_left lines.old) }
+    ensures row_or_fault { result ≡ row_read lines.old.file lines.old.taken (λ p. value_line (C.Column.filled room) columns.now C.BlankRow.blank (pieces 32 p)) (lines_left lines.old) }
     ensures later_lines_left { lines_left lines.new ≡ after_line (lines_left lines.old) }
     ensures line_counted { lines.new.taken ≡ count_after lines.old.taken (lines_left lines.old) }
     ensures file_kept { lines.new.file ≡ lines.old.file }
