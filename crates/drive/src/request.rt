@@ -2,7 +2,6 @@
 use maps::closures::ShutPlace;
 use maps::estate::EstateNumbers;
 use std::alloc::{AllocError, Global};
-use std::num::ParseIntError;
 use thiserror::Error;
 use walks::trial::ChargedWalk;
 
@@ -33,18 +32,18 @@ impl Request {
 }
 
 /// Why the words on the command line ask for nothing.
-#[derive(Debug, Drop, Error)]
+#[derive(Clone, Copy, Debug, Error)]
 pub enum BadRequest {
     #[error("too few words")]
     TooFewWords,
     #[error("a word that is no whole number")]
-    NotANumber(#[from] ParseIntError),
+    NotANumber,
     #[error("out of memory")]
     OutOfMemory(#[from(alloc)] AllocError),
 }
 
 fn number(word: &str) -> Result<u32, BadRequest> {
-    Ok(word.parse()?)
+    word.parse().map_err(|_| BadRequest::NotANumber)
 }
 
 fn numbers(heap: Global, words: &[String]) -> Result<Vec<u32>, BadRequest> {
