@@ -33,7 +33,7 @@ use Rattle.planner.specs.Answer.{AnsweredBy, MayConclude, FrontHasMore, NoDrive}
 use Rattle.planner.specs.Told.{RoadsOf, ToldBy}
 
 -- a call that was accepted passed its checks
-accepted : {A : Type 0} (check : Option Refusal) (a : A) (same : Type 0) (P : A → Type 0) → Refuses check (Ok a) same P → (check ≡ None) × P a
+pub accepted : {A : Type 0} (check : Option Refusal) (a : A) (same : Type 0) (P : A → Type 0) → Refuses check (Ok a) same P → (check ≡ None) × P a
 accepted None a same P r = (refl, r)
 accepted (Some f) a same P r = absurd r
 
@@ -72,7 +72,7 @@ module _ (q : Query Charge) (s s' : Numbers) (ls ls' : List (Label Charge)) (ws 
   from_the_first b none zero x lo hi st g = not_label_0 x st g
   from_the_first b none (suc i) x lo hi st g = none (suc i) x (omega (arith, one)) hi st g
 
-  ended_means_no_drive : p.standing ≡ Ended → NoDrive q
+  pub ended_means_no_drive : p.standing ≡ Ended → NoDrive q
   ended_means_no_drive e a reached goal =
       junction_without_label_is_not_reached q after.stands.valid (take s'.listed ls')
       (subst (λ (n : ℕ). Invariant q (take s'.listed ls') (labels_of (take n ws'))) (adv.nothing_waits_once_ended e) after.stands.invariant) q.goal none a reached goal
@@ -80,10 +80,10 @@ module _ (q : Query Charge) (s s' : Numbers) (ls ls' : List (Label Charge)) (ws 
       none : (y : Label Charge) → Has (take s'.listed ls') y → y.arrival.junction ≡ q.goal → ⊥
       none y (i, h, d) g = from_the_first s'.listed (says Ended e).1 i y (omega arith) (below_take ls' s'.listed i y (h, d)) (take_stored ls' s'.listed i y (h, d)) g
 
-  never_paused : p.standing ≡ Paused → ⊥
+  pub never_paused : p.standing ≡ Paused → ⊥
   never_paused e = omega (arith, (says Paused e).0, one, adv.lists_within_the_table, adv.labels_keep_their_length, roomy)
 
-  full_means_more : p.standing ≡ Full → FrontHasMore q (length ls)
+  pub full_means_more : p.standing ≡ Full → FrontHasMore q (length ls)
   full_means_more e = record {
     labels = ls';
     all_used = adv.labels_keep_their_length;
