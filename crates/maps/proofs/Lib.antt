@@ -3,3 +3,4 @@ pub mod Shutting
 pub mod ClosedRows
 mod Tested
 pub mod FailingAlike
+pub mod RoadsInRows

@@ -84,14 +84,15 @@ impl Tables<'_> {
         }
     }
 
-    // Checks every road, in the order of the entries.
-    // The loop goes by the entry's number, which three tables share and from which its junction follows.
+    // Checks every road, in the order of the entries: junction after junction, by the place of each in its row.
     fn check_roads(self) -> Result<(), Refusal>
-        requires { tables_lengths_fault self ≡ None }
+        requires lengths_agree { tables_lengths_fault self ≡ None }
+        requires twelve_at_most { first_failure (count_fault self.counts.now) (length self.counts.now) ≡ None }
         ensures { result_err result ≡ first_failure (tables_entry_fault self.entry) (12 * length self.entry.counts.now) }
     {
-        for entry in 0..12 * self.counts.len() {
-            if entry % 12 < self.counts[entry / 12] as usize {
+        for v in 0..self.counts.len() {
+            let first = 12 * v;
+            for entry in first..first + self.counts[v] as usize {
                 self.road(entry).check(self.counts.len())?;
             }
         }
